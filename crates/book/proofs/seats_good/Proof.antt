@@ -1,0 +1,59 @@
+-- A walk that is left at the first record that fails: what was passed is good, and the end tells whether all were.
+-- Assumes nothing.
+use mathlib.Core.Logic.{⊎-elim}
+use Rattle.lemmas.specs.Walks.{every, every-none, every-more, walk-end, walk-left}
+use Rattle.book.specs.Layout.{Shaped}
+use borrow.Author.Needs.{needs}
+use Prim.Native.Nat.{ℕ, _+_, _*_, _-_, _≤_, _<_}
+use native.Mathlib.Omega.{arith}
+use Rattle.book.specs.Book.{seatsGood, seatGoodAt}
+use mathlib.Core.Bool.{Bool, true, false}
+use mathlib.Core.Path.{_≡_, refl, sym, _∙_, ap}
+use borrow.Author.Tests.{eq-eqb, ne-eqb, le-ltb, lt-ltb, not-true, not-false, ltb-true}
+use Rattle.book.proofs.seats_good.Statement.{statement}
+use Rattle.book.proofs.seats_good.Tie as tie
+
+abbrev Inv-walk : tie.InvT-walk
+Inv-walk book s i₀ i = (i ≤ s) × (every (seatGoodAt book) i ≡ true)
+
+abbrev μ-walk : tie.MeasureT-walk
+μ-walk book s i₀ i = s - i
+
+seat-count-requires : tie.Need-seat-count-requires Inv-walk μ-walk
+seat-count-requires c κs = omega arith
+
+walk-holds : tie.Need-walk-holds Inv-walk μ-walk
+walk-holds c = (search needs, every-none _)
+
+seat-good-at-requires : tie.Need-seat-good-at-requires Inv-walk μ-walk
+seat-good-at-requires c κs = (c .before .before .before .before .pre, omega arith)
+
+add-i : tie.Need-add-i Inv-walk μ-walk
+add-i c = omega arith
+
+walk-less : tie.Need-walk-less Inv-walk μ-walk
+walk-less c = omega arith
+
+walk-again : tie.Need-walk-again Inv-walk μ-walk
+walk-again c = (omega arith, every-more _ _ (c .before .before .before .walk .inv .1) (sym (c .before .seat-good-at .ensures) ∙ not-false _ (c .if1 .left)))
+
+returns : tie.Need-returns Inv-walk μ-walk
+unfolding seatsGood
+returns c = let e = c .before .before .seat-count .ensures .0 in
+    let v = c .before .walk .inv in
+    ⊎-elim (λ w. walk-end _ _ e (v .0) (v .1) (w .left)) (λ w. walk-left _ _ e (w .0 .taken) (sym (w .1 .ensures) ∙ not-true _ (w .2 .taken)))
+    (c .walk-test .came)
+
+pub seats-good-spec : {M : Type 1} → statement M
+seats-good-spec =
+    tie.close
+    (tie.spec
+    Inv-walk
+    μ-walk
+    seat-count-requires
+    walk-holds
+    seat-good-at-requires
+    add-i
+    walk-less
+    walk-again
+    returns)

@@ -1,0 +1,5 @@
+pub mod Layout
+pub mod Book
+pub mod Lens
+pub mod Good
+pub mod Same

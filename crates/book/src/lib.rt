@@ -1,0 +1,302 @@
+// The book: where its records stand, and whether it is good. No other crate knows its bytes.
+ghost use mathlib.Core.Path.{_≡_};
+ghost use Prim.Native.Nat.{_+_, _*_, _≤_, _<_};
+ghost use lib.ListN.{length};
+ghost use mathlib.Core.Bool.{true};
+ghost use Rattle.book.specs.Layout.{headSize, activityCount, seatCount, sizeOf, activityOf, seatOf, putState, putDirection, moved, Shaped};
+ghost use Rattle.book.specs.Book.{activityGood, seatGood, activityGoodAt, seatGoodAt, agreesAt, numbersGood, headGood, activitiesGood, seatsGood, directionsGood, bookRefusal};
+
+pub struct Activity {
+    pub kind: u8,
+    pub direction: u8,
+}
+
+pub struct Seat {
+    pub activity: usize,
+    pub role: u8,
+    pub table: u8,
+    pub state: u8,
+}
+
+pub const ATOMIC: u8 = 1;
+
+pub const MIXED: u8 = 2;
+
+const HEAD_SIZE: usize = 8;
+
+const ACTIVITY_SIZE: usize = 2;
+
+const SEAT_SIZE: usize = 4;
+
+const MOST_ACTIVITIES: usize = 256;
+
+const MOST_SEATS: usize = 4096;
+
+// The first state that needs a direction.
+const CLOSING: u8 = 6;
+
+pub const REFUSED_SHORT: u8 = 1;
+
+pub const REFUSED_NUMBERS: u8 = 2;
+
+pub const REFUSED_ACTIVITY: u8 = 3;
+
+pub const REFUSED_SEAT: u8 = 4;
+
+pub const REFUSED_DIRECTION: u8 = 5;
+
+fn wide(x: u8) -> usize
+    ensures { λ r. ⌜ r ≡ x ⌝ }
+{
+    x as usize
+}
+
+// How many activities, and how many seats, the header says.
+pub fn activity_count(book: &[u8]) -> usize
+    requires { ⌜ headSize ≤ length (now book) ⌝ }
+    ensures value { λ r. ⌜ r ≡ activityCount (now (book .entry)) ⌝ }
+    ensures most { λ r. ⌜ r < 65536 ⌝ }
+{
+    records::u16_at(book, 0)
+}
+
+pub fn seat_count(book: &[u8]) -> usize
+    requires { ⌜ headSize ≤ length (now book) ⌝ }
+    ensures value { λ r. ⌜ r ≡ seatCount (now (book .entry)) ⌝ }
+    ensures most { λ r. ⌜ r < 65536 ⌝ }
+{
+    records::u16_at(book, 2)
+}
+
+// The length of the book that a header begins.
+pub fn size(book: &[u8]) -> usize
+    requires { ⌜ headSize ≤ length (now book) ⌝ }
+    ensures { λ r. ⌜ r ≡ sizeOf (now (book .entry)) ⌝ }
+{
+    HEAD_SIZE + ACTIVITY_SIZE * activity_count(book) + SEAT_SIZE * seat_count(book)
+}
+
+// Activity `k`.
+pub fn read_activity(book: &[u8], k: usize) -> Activity
+    requires { ⌜ Shaped (now book) ⌝ }
+    requires { ⌜ k < activityCount (now book) ⌝ }
+    ensures { λ r. ⌜ r ≡ activityOf (now (book .entry)) k ⌝ }
+{
+    let at = HEAD_SIZE + ACTIVITY_SIZE * k;
+    Activity {
+        kind: book[at],
+        direction: book[at + 1],
+    }
+}
+
+// Seat `n`.
+pub fn read_seat(book: &[u8], n: usize) -> Seat
+    requires { ⌜ Shaped (now book) ⌝ }
+    requires { ⌜ n < seatCount (now book) ⌝ }
+    ensures { λ r. ⌜ r ≡ seatOf (now (book .entry)) n ⌝ }
+{
+    let from = records::u16_at(book, 6);
+    let at = from + SEAT_SIZE * n;
+    Seat {
+        activity: wide(book[at]),
+        role: book[at + 1],
+        table: book[at + 2],
+        state: book[at + 3],
+    }
+}
+
+// Seat `n` in another state.
+pub fn put_state(book: &mut [u8], n: usize, state: u8)
+    requires { ⌜ Shaped (now book) ⌝ }
+    requires { ⌜ n < seatCount (now book) ⌝ }
+    ensures { λ _. ⌜ now (book .exit) ≡ putState (now (book .entry)) n state ⌝ }
+{
+    let from = records::u16_at(book, 6);
+    book[from + SEAT_SIZE * n + 3] = state;
+}
+
+// Activity `k` with another direction.
+fn put_direction(book: &mut [u8], k: usize, direction: u8)
+    requires { ⌜ Shaped (now book) ⌝ }
+    requires { ⌜ k < activityCount (now book) ⌝ }
+    ensures { λ _. ⌜ now (book .exit) ≡ putDirection (now (book .entry)) k direction ⌝ }
+{
+    book[HEAD_SIZE + ACTIVITY_SIZE * k + 1] = direction;
+}
+
+// Seat `n`, of activity `k`, in another state, and that activity with another direction.
+pub fn put_outcome(book: &mut [u8], n: usize, k: usize, state: u8, direction: u8)
+    requires { ⌜ Shaped (now book) ⌝ }
+    requires { ⌜ n < seatCount (now book) ⌝ }
+    requires { ⌜ (k ≡ seatOf (now book) n .activity) × (k < activityCount (now book)) ⌝ }
+    ensures { λ _. ⌜ now (book .exit) ≡ moved (now (book .entry)) n state direction ⌝ }
+{
+    put_state(book, n, state);
+    put_direction(book, k, direction);
+}
+
+fn activity_good(kind: u8, direction: u8) -> bool
+    ensures { λ r. ⌜ r ≡ activityGood kind direction ⌝ }
+{
+    if kind == ATOMIC {
+        return direction <= rules::DIRECTION_COMPENSATE;
+    }
+    if kind == MIXED {
+        return direction == rules::DIRECTION_NONE;
+    }
+    false
+}
+
+// The header's four numbers and the length.
+fn numbers_good(a: usize, s: usize, acts: usize, seats: usize, len: usize) -> bool
+    ensures { λ r. ⌜ r ≡ numbersGood a s acts seats len ⌝ }
+{
+    if MOST_ACTIVITIES < a {
+        return false;
+    }
+    if MOST_SEATS < s {
+        return false;
+    }
+    if acts != HEAD_SIZE {
+        return false;
+    }
+    if seats != HEAD_SIZE + ACTIVITY_SIZE * a {
+        return false;
+    }
+    len == HEAD_SIZE + ACTIVITY_SIZE * a + SEAT_SIZE * s
+}
+
+fn head_good(book: &[u8]) -> bool
+    requires { ⌜ headSize ≤ length (now book) ⌝ }
+    ensures { λ r. ⌜ r ≡ headGood (now (book .entry)) ⌝ }
+{
+    let a = activity_count(book);
+    let s = seat_count(book);
+    let acts = records::u16_at(book, 4);
+    let seats = records::u16_at(book, 6);
+    numbers_good(a, s, acts, seats, book.len())
+}
+
+fn activity_good_at(book: &[u8], k: usize) -> bool
+    requires { ⌜ Shaped (now book) ⌝ }
+    requires { ⌜ k < activityCount (now book) ⌝ }
+    ensures { λ r. ⌜ r ≡ activityGoodAt (now (book .entry)) k ⌝ }
+{
+    let x = read_activity(book, k);
+    activity_good(x.kind, x.direction)
+}
+
+// Every activity is one that the rules allow.
+fn activities_good(book: &[u8]) -> bool
+    requires { ⌜ Shaped (now book) ⌝ }
+    ensures { λ r. ⌜ r ≡ activitiesGood (now (book .entry)) ⌝ }
+{
+    let a = activity_count(book);
+    let mut i: usize = 0;
+    'walk: while i < a {
+        if !activity_good_at(book, i) {
+            break 'walk;
+        }
+        i += 1;
+    }
+    i == a
+}
+
+fn seat_good(a: usize, x: Seat) -> bool
+    ensures { λ r. ⌜ r ≡ seatGood a x ⌝ }
+{
+    if a <= x.activity {
+        return false;
+    }
+    rules::has_state(x.role, x.table, x.state)
+}
+
+fn seat_good_at(book: &[u8], n: usize) -> bool
+    requires { ⌜ Shaped (now book) ⌝ }
+    requires { ⌜ n < seatCount (now book) ⌝ }
+    ensures { λ r. ⌜ r ≡ seatGoodAt (now (book .entry)) n ⌝ }
+{
+    let a = activity_count(book);
+    let x = read_seat(book, n);
+    seat_good(a, x)
+}
+
+// Every seat is one that the rules allow.
+fn seats_good(book: &[u8]) -> bool
+    requires { ⌜ Shaped (now book) ⌝ }
+    ensures { λ r. ⌜ r ≡ seatsGood (now (book .entry)) ⌝ }
+{
+    let s = seat_count(book);
+    let mut i: usize = 0;
+    'walk: while i < s {
+        if !seat_good_at(book, i) {
+            break 'walk;
+        }
+        i += 1;
+    }
+    i == s
+}
+
+// The state first: most states need no direction, and then nothing else is read.
+fn agree_at(book: &[u8], n: usize) -> bool
+    requires { ⌜ Shaped (now book) ⌝ }
+    requires { ⌜ seatsGood (now book) ≡ true ⌝ }
+    requires { ⌜ n < seatCount (now book) ⌝ }
+    ensures { λ r. ⌜ r ≡ agreesAt (now (book .entry)) n ⌝ }
+{
+    let x = read_seat(book, n);
+    if x.state < CLOSING {
+        return true;
+    }
+    let need = rules::direction_needed(x.state);
+    if need == rules::DIRECTION_NONE {
+        return true;
+    }
+    if x.role != rules::COORDINATOR {
+        return true;
+    }
+    let y = read_activity(book, x.activity);
+    if y.kind != ATOMIC {
+        return true;
+    }
+    need == y.direction
+}
+
+// No seat is against its activity's direction.
+fn directions_good(book: &[u8]) -> bool
+    requires { ⌜ Shaped (now book) ⌝ }
+    requires { ⌜ seatsGood (now book) ≡ true ⌝ }
+    ensures { λ r. ⌜ r ≡ directionsGood (now (book .entry)) ⌝ }
+{
+    let s = seat_count(book);
+    let mut i: usize = 0;
+    'walk: while i < s {
+        if !agree_at(book, i) {
+            break 'walk;
+        }
+        i += 1;
+    }
+    i == s
+}
+
+// The refusal of a book, or 0.
+pub fn check(book: &[u8]) -> u8
+    ensures { λ r. ⌜ r ≡ bookRefusal (now (book .entry)) ⌝ }
+{
+    if book.len() < HEAD_SIZE {
+        return REFUSED_SHORT;
+    }
+    if !head_good(book) {
+        return REFUSED_NUMBERS;
+    }
+    if !activities_good(book) {
+        return REFUSED_ACTIVITY;
+    }
+    if !seats_good(book) {
+        return REFUSED_SEAT;
+    }
+    if !directions_good(book) {
+        return REFUSED_DIRECTION;
+    }
+    rules::GOOD
+}

@@ -1,0 +1,7 @@
+pub mod Groups
+pub mod OneGroup
+pub mod Neighbours
+pub mod Firsts
+pub mod Bytes
+pub mod Demands
+pub mod Cases

@@ -1,0 +1,1 @@
+// No code: what the engine promises as a whole stands in specs/Demands.antt, proved from the crates' definitions.

@@ -1,0 +1,3 @@
+pub mod Journal
+pub mod Laws
+pub mod Theorems

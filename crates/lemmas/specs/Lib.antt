@@ -1,0 +1,4 @@
+pub mod Bools
+pub mod Ranges
+pub mod Walks
+pub mod Orders

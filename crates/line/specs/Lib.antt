@@ -1,0 +1,4 @@
+pub mod Grammar
+pub mod Seats
+pub mod Places
+pub mod Laws

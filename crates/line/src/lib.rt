@@ -1,0 +1,161 @@
+// One line of a journal: where its newline stands, and the event that it says or the number of its refusal.
+ghost use mathlib.Core.Path.{_≡_};
+ghost use Prim.Native.Nat.{_≤_};
+ghost use lib.ListN.{length as lengthOf, take};
+ghost use Rattle.line.specs.Grammar.{indexOf, thirdOf, secondOf, fieldsOf, lineOf, lineMost, newline};
+ghost use Rattle.line.specs.Seats.{seatIn, digitsIn};
+use records::Event;
+
+// A line with its newline.
+const LINE_MOST: usize = 26;
+
+const SEAT_MOST: usize = 65535;
+
+const NEWLINE: u8 = 10;
+
+const SPACE: u8 = 32;
+
+const ZERO: u8 = 48;
+
+const NINE: u8 = 57;
+
+const REFUSED_LENGTH: u8 = 21;
+
+const REFUSED_SEAT: u8 = 22;
+
+const REFUSED_WAY: u8 = 23;
+
+const REFUSED_MESSAGE: u8 = 24;
+
+pub enum Line {
+    Good(Event),
+    Refused(u8),
+}
+
+// A seat's number and how many bytes say it.
+enum Seat {
+    At { number: usize, size: usize },
+    Nothing,
+}
+
+// How many bytes of a line stand before its newline, where that is one of the first 26 of the text from the line on.
+pub fn length(rest: &[u8]) -> usize
+    ensures place { λ r. ⌜ r ≡ indexOf newline (take lineMost (now (rest .entry))) ⌝ }
+    ensures within { λ r. ⌜ r ≤ lengthOf (now (rest .entry)) ⌝ }
+{
+    if rest.len() < LINE_MOST {
+        find(rest, NEWLINE)
+    } else {
+        find(&rest[..LINE_MOST], NEWLINE)
+    }
+}
+
+// What the line says that the text begins with; `length` is the answer of the function above.
+pub fn said(rest: &[u8], length: usize) -> Line
+    requires { ⌜ length ≡ indexOf newline (take lineMost (now rest)) ⌝ }
+    ensures { λ r. ⌜ r ≡ lineOf (now (rest .entry)) ⌝ }
+{
+    if length < LINE_MOST {
+        if length < rest.len() {
+            return fields(&rest[..length]);
+        }
+    }
+    Line::Refused(REFUSED_LENGTH)
+}
+
+// A line without its newline.
+fn fields(body: &[u8]) -> Line
+    ensures { λ r. ⌜ r ≡ fieldsOf (now (body .entry)) ⌝ }
+{
+    let Seat::At { number, size } = first(body) else {
+        return Line::Refused(REFUSED_SEAT);
+    };
+    second(number, &body[size + 1..])
+}
+
+// What stands after the first space.
+fn second(seat: usize, part: &[u8]) -> Line
+    ensures { λ r. ⌜ r ≡ secondOf seat (now (part .entry)) ⌝ }
+{
+    let at = find(part, SPACE);
+    if at < part.len() {
+        let way = names::way_named(&part[..at]);
+        if 1 < way {
+            return Line::Refused(REFUSED_WAY);
+        }
+        third(seat, way, &part[at + 1..])
+    } else {
+        Line::Refused(REFUSED_WAY)
+    }
+}
+
+// What stands after the second.
+fn third(seat: usize, way: u8, part: &[u8]) -> Line
+    ensures { λ r. ⌜ r ≡ thirdOf seat way (now (part .entry)) ⌝ }
+{
+    let message = names::message_named(part);
+    if message == 0 {
+        Line::Refused(REFUSED_MESSAGE)
+    } else {
+        Line::Good(Event { seat, way, message })
+    }
+}
+
+// The seat and the space that a line begins with, found in one walk.
+fn first(body: &[u8]) -> Seat
+    ensures { λ r. ⌜ r ≡ seatIn (now (body .entry)) ⌝ }
+{
+    if body.len() < 2 {
+        return Seat::Nothing;
+    }
+    if body[0] == SPACE {
+        return Seat::Nothing;
+    }
+    if body[0] == ZERO {
+        if body[1] != SPACE {
+            return Seat::Nothing;
+        }
+    }
+    digits(body)
+}
+
+// The same where no byte is missing before the space and no zero leads.
+fn digits(body: &[u8]) -> Seat
+    ensures { λ r. ⌜ r ≡ digitsIn 0 0 (now (body .entry)) ⌝ }
+{
+    let mut number: usize = 0;
+    let mut i = 0;
+    while i < body.len() {
+        let digit = body[i];
+        if digit == SPACE {
+            return Seat::At { number, size: i };
+        }
+        if digit < ZERO {
+            return Seat::Nothing;
+        }
+        if NINE < digit {
+            return Seat::Nothing;
+        }
+        number = number * 10 + (digit - ZERO) as usize;
+        if SEAT_MOST < number {
+            return Seat::Nothing;
+        }
+        i += 1;
+    }
+    Seat::Nothing
+}
+
+// The first place of b in s; the length of s where it has none.
+fn find(s: &[u8], b: u8) -> usize
+    ensures place { λ r. ⌜ r ≡ indexOf b (now (s .entry)) ⌝ }
+    ensures within { λ r. ⌜ r ≤ lengthOf (now (s .entry)) ⌝ }
+{
+    let mut i = 0;
+    while i < s.len() {
+        if s[i] == b {
+            return i;
+        }
+        i += 1;
+    }
+    i
+}

@@ -1,0 +1,33 @@
+-- Out of range no role has the state; in range the bit is the rule (`bit-is`).
+-- Assumes nothing.
+use borrow.Author.Needs.{needs}
+use native.Mathlib.Omega.{arith}
+use mathlib.Core.Path.{_≡_, sym, _∙_, ap}
+use Prim.Native.Nat.{ℕ, _+_, _-_}
+use Rattle.lemmas.specs.Bools.{never-true}
+use Rattle.rules.specs.Rules.{hasState, lastState, bitOf}
+use Rattle.rules.specs.Laws.{has-state}
+use Rattle.rules.proofs.Bits.{bit-is}
+use Rattle.rules.proofs.has_state.Statement.{statement}
+use Rattle.rules.proofs.has_state.Tie as tie
+
+returns-6 : tie.Need-returns-6
+unfolding hasState lastState bitOf
+returns-6 c =
+    let x = c .before .before .before .before .before .before .args in
+    let back : x .table - 1 + 1 ≡ x .table = omega arith in
+    c .bit .ensures
+    ∙ bit-is 0xfff61ff6fffe1ffe (λ r h p. hasState r (h + 1) p) tt (x .role) (x .table - 1) (x .s) (omega arith) (omega arith) (omega arith) (omega arith)
+    ∙ ap (λ (t : ℕ). hasState (x .role) t (x .s)) back
+
+pub has-state-spec : {M : Type 1} → statement M
+has-state-spec =
+    tie.close
+    (tie.spec
+    (λ c. sym (never-true _ (λ h. let i = has-state _ _ _ h in omega arith)))
+    (λ c. sym (never-true _ (λ h. let i = has-state _ _ _ h in omega arith)))
+    (λ c. sym (never-true _ (λ h. let i = has-state _ _ _ h in omega arith)))
+    (λ c. sym (never-true _ (λ h. let i = has-state _ _ _ h in omega arith)))
+    (λ c. sym (never-true _ (λ h. let i = has-state _ _ _ h in omega arith)))
+    (λ c κs. search needs)
+    returns-6)

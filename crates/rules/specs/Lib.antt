@@ -1,0 +1,7 @@
+pub mod Numbers
+pub mod Tables
+pub mod Rules
+pub mod Outcome
+pub mod Laws
+pub mod Cases
+pub mod Single

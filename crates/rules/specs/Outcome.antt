@@ -1,0 +1,14 @@
+-- The outline's section 'One outcome': the direction that a state needs and that a message asks for. 0 is none.
+-- Assumes nothing.
+use Prim.Native.Nat.{ℕ}
+use mathlib.Core.Bool.{cond}
+use lib.Dec.{eqb}
+use Rattle.rules.specs.Numbers.{close, compensate, toClose, toCompensate}
+
+-- a coordinator seat in 6 needs direction 1, in 7 or 9 direction 2
+unfoldable pub neededBy : ℕ → ℕ
+neededBy state = cond (eqb state 6) toClose (cond (eqb state 7) toCompensate (cond (eqb state 9) toCompensate 0))
+
+-- a sent Close sets direction 1, a sent Compensate direction 2
+unfoldable pub askedBy : ℕ → ℕ
+askedBy message = cond (eqb message close) toClose (cond (eqb message compensate) toCompensate 0)

@@ -1,0 +1,199 @@
+// One event, and a run over an event list.
+ghost use mathlib.Core.Path.{_≡_};
+ghost use Prim.Native.Nat.{_+_, _*_, _≤_, _<_};
+ghost use lib.ListN.{length};
+ghost use Rattle.records.specs.Records.{placed, firstEvents};
+ghost use Rattle.book.specs.Layout.{activityCount, seatCount, seatOf, moved, Shaped};
+ghost use Rattle.book.specs.Book.{bookRefusal};
+ghost use Rattle.run.specs.Step.{refused, known, ruled, asked, clashes, outcomeOf, turnedBook, answerTo, bookAfter, answerBytes, answerAt};
+ghost use Rattle.run.specs.Run.{after, filled, runRefusal, runBook, runAnswers};
+use book::Seat;
+use records::Event;
+use rules::Answer;
+
+const MOST_EVENTS: usize = 4096;
+
+pub const REFUSED_EVENTS: u8 = 6;
+
+pub const REFUSED_ANSWERS: u8 = 7;
+
+pub const REFUSED_NO_SEAT: u8 = 11;
+
+pub const REFUSED_UNKNOWN: u8 = 12;
+
+pub const REFUSED_NOT_MOVED: u8 = 13;
+
+pub const REFUSED_OUTCOME: u8 = 15;
+
+fn refuse(number: u8, state: u8) -> Answer
+    ensures { λ r. ⌜ r ≡ refused number state ⌝ }
+{
+    Answer {
+        refusal: number,
+        state: state,
+        action: 0,
+        reply: 0,
+    }
+}
+
+// Whether a way and a message are the outline's.
+fn is_known(way: u8, m: u8) -> bool
+    ensures { λ r. ⌜ r ≡ known way m ⌝ }
+{
+    if rules::SENT < way {
+        return false;
+    }
+    if m < 1 {
+        return false;
+    }
+    m <= 14
+}
+
+// What the seat's table answers, or refusal 12, 13 or 14.
+fn rule(x: Seat, way: u8, m: u8) -> Answer
+    ensures { λ r. ⌜ r ≡ ruled x way m ⌝ }
+{
+    if !is_known(way, m) {
+        return refuse(REFUSED_UNKNOWN, x.state);
+    }
+    if !rules::moves_message(x.role, way, m) {
+        return refuse(REFUSED_NOT_MOVED, x.state);
+    }
+    let entry = rules::entry_at(x.role, x.table, way, m, x.state);
+    rules::answer_of(entry, x.state)
+}
+
+// The direction that an event asks of an atomic activity, or 0.
+fn ask(role: u8, way: u8, m: u8) -> u8
+    ensures { λ r. ⌜ r ≡ asked role way m ⌝ }
+{
+    if role != rules::COORDINATOR {
+        return rules::DIRECTION_NONE;
+    }
+    if way != rules::SENT {
+        return rules::DIRECTION_NONE;
+    }
+    rules::direction_asked(m)
+}
+
+fn clash(direction: u8, want: u8) -> bool
+    ensures { λ r. ⌜ r ≡ clashes direction want ⌝ }
+{
+    if want == rules::DIRECTION_NONE {
+        return false;
+    }
+    if direction == rules::DIRECTION_NONE {
+        return false;
+    }
+    direction != want
+}
+
+// The answer where an atomic activity is asked for a direction.
+fn outcome(direction: u8, want: u8, state: u8, q: Answer) -> Answer
+    ensures { λ r. ⌜ r ≡ outcomeOf direction want state q ⌝ }
+{
+    if q.refusal != rules::GOOD {
+        return q;
+    }
+    if clash(direction, want) {
+        return refuse(REFUSED_OUTCOME, state);
+    }
+    q
+}
+
+// A good answer is stored, with the direction that it gives the activity.
+fn turn(book: &mut [u8], n: usize, k: usize, want: u8, r: Answer) -> Answer
+    requires { ⌜ Shaped (now book) ⌝ }
+    requires { ⌜ n < seatCount (now book) ⌝ }
+    requires { ⌜ (k ≡ seatOf (now book) n .activity) × (k < activityCount (now book)) ⌝ }
+    ensures answer { λ a. ⌜ a ≡ r ⌝ }
+    ensures after { λ _. ⌜ now (book .exit) ≡ turnedBook (now (book .entry)) n want r ⌝ }
+{
+    if r.refusal == rules::GOOD {
+        book::put_outcome(book, n, k, r.state, want);
+    }
+    r
+}
+
+// One event. A refused one has the state it had, so storing the state asks for no test.
+fn step(book: &mut [u8], e: Event) -> Answer
+    requires { ⌜ bookRefusal (now book) ≡ 0 ⌝ }
+    ensures answer { λ r. ⌜ r ≡ answerTo (now (book .entry)) e ⌝ }
+    ensures after { λ _. ⌜ now (book .exit) ≡ bookAfter (now (book .entry)) e ⌝ }
+{
+    let n = e.seat;
+    if book::seat_count(book) <= n {
+        return refuse(REFUSED_NO_SEAT, 0);
+    }
+    let x = book::read_seat(book, n);
+    let q = rule(x, e.way, e.message);
+    let want = ask(x.role, e.way, e.message);
+    if want != rules::DIRECTION_NONE {
+        let k = x.activity;
+        let y = book::read_activity(book, k);
+        if y.kind == book::ATOMIC {
+            return turn(book, n, k, want, outcome(y.direction, want, x.state, q));
+        }
+    }
+    book::put_state(book, n, q.state);
+    q
+}
+
+// Answer `n` of an area.
+pub fn read_answer(answers: &[u8], n: usize) -> Answer
+    requires { ⌜ 4 * n + 4 ≤ length (now answers) ⌝ }
+    ensures { λ r. ⌜ r ≡ answerAt (now (answers .entry)) n ⌝ }
+{
+    let at = 4 * n;
+    Answer {
+        refusal: answers[at],
+        state: answers[at + 1],
+        action: answers[at + 2],
+        reply: answers[at + 3],
+    }
+}
+
+fn put_answer(area: &mut [u8], n: usize, a: Answer)
+    requires { ⌜ 4 * n + 4 ≤ length (now area) ⌝ }
+    ensures { λ _. ⌜ now (area .exit) ≡ placed (now (area .entry)) (4 * n) (answerBytes a) ⌝ }
+{
+    records::put_four(area, 4 * n, a.refusal, a.state, a.action, a.reply);
+}
+
+// The first `count` events of a list, at a good book.
+fn work(book: &mut [u8], events: &[u8], area: &mut [u8], count: usize)
+    requires { ⌜ bookRefusal (now book) ≡ 0 ⌝ }
+    requires { ⌜ (4 * count ≤ length (now events)) × (4 * count ≤ length (now area)) ⌝ }
+    ensures book { λ _. ⌜ now (book .exit) ≡ after (now (book .entry)) (firstEvents (now (events .entry)) count) ⌝ }
+    ensures area { λ _. ⌜ now (area .exit) ≡ filled (now (book .entry)) (now (events .entry)) (now (area .entry)) count ⌝ }
+{
+    let mut i: usize = 0;
+    while i < count {
+        let a = step(book, records::read_event(events, i));
+        put_answer(area, i, a);
+        i += 1;
+    }
+}
+
+// Works an event list: the book is moved, and each event's answer stands in the area. Returns the refusal, or 0.
+pub fn run(book: &mut [u8], events: &[u8], area: &mut [u8]) -> u8
+    ensures result { λ r. ⌜ r ≡ runRefusal (now (book .entry)) (now (events .entry)) (now (area .entry)) ⌝ }
+    ensures book { λ _. ⌜ now (book .exit) ≡ runBook (now (book .entry)) (now (events .entry)) (now (area .entry)) ⌝ }
+    ensures area { λ _. ⌜ now (area .exit) ≡ runAnswers (now (book .entry)) (now (events .entry)) (now (area .entry)) ⌝ }
+{
+    let bad = book::check(book);
+    if bad != rules::GOOD {
+        return bad;
+    }
+    if events.len() % 4 != 0 {
+        return REFUSED_EVENTS;
+    }
+    if MOST_EVENTS < events.len() / 4 {
+        return REFUSED_EVENTS;
+    }
+    if area.len() < events.len() {
+        return REFUSED_ANSWERS;
+    }
+    work(book, events, area, events.len() / 4);
+    rules::GOOD
+}
