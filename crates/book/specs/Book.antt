@@ -8,7 +8,7 @@ use lib.Dec.{leb, ltb, eqb}
 use Rattle.lemmas.specs.Walks.{every}
 use Rattle.rules.specs.Numbers.{coordinator}
 use Rattle.rules.specs.Rules.{hasState}
-use Rattle.rules.specs.Outcome.{neededBy}
+use Rattle.rules.specs.Outcome.{suits}
 use Rattle.book.specs.declared.Activity.{Activity}
 use Rattle.book.specs.declared.Seat.{Seat}
 use Rattle.book.specs.Layout.{activityCount, seatCount, activitiesFrom, seatsFrom, headSize, activitySize, seatSize, mostActivities, mostSeats, activityOf, seatOf}
@@ -51,7 +51,7 @@ seatsGood b = every (seatGoodAt b) (seatCount b)
 -- 5: a seat against its activity's direction. In an atomic activity a coordinator seat has the direction that its state needs
 unfoldable pub agrees : ℕ → ℕ → ℕ → ℕ → Bool
 agrees kind direction role state =
-    cond (eqb kind atomic && eqb role coordinator) (eqb (neededBy state) 0 || eqb (neededBy state) direction) true
+    cond (eqb kind atomic && eqb role coordinator) (suits direction state) true
 
 unfoldable pub agreesAt : List ℕ → ℕ → Bool
 agreesAt b n =
@@ -66,3 +66,10 @@ bookRefusal b =
     cond (ltb (length b) headSize) 1
     (cond (not (headGood b)) 2
     (cond (not (activitiesGood b)) 3 (cond (not (seatsGood b)) 4 (cond (not (directionsGood b)) 5 0))))
+
+-- 4 and 5 at once: what the code looks for first
+abbrev pub fitsAt : List ℕ → ℕ → Bool
+fitsAt b n = seatGoodAt b n && agreesAt b n
+
+unfoldable pub seatsFit : List ℕ → Bool
+seatsFit b = every (fitsAt b) (seatCount b)

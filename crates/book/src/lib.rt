@@ -4,7 +4,7 @@ ghost use Prim.Native.Nat.{_+_, _*_, _≤_, _<_};
 ghost use lib.ListN.{length};
 ghost use mathlib.Core.Bool.{true};
 ghost use Rattle.book.specs.Layout.{headSize, activityCount, seatCount, sizeOf, activityOf, seatOf, putState, putDirection, moved, Shaped};
-ghost use Rattle.book.specs.Book.{activityGood, seatGood, activityGoodAt, seatGoodAt, agreesAt, numbersGood, headGood, activitiesGood, seatsGood, directionsGood, bookRefusal};
+ghost use Rattle.book.specs.Book.{activityGood, seatGood, activityGoodAt, seatGoodAt, agrees, fitsAt, numbersGood, headGood, activitiesGood, seatsGood, seatsFit, bookRefusal};
 
 pub struct Activity {
     pub kind: u8,
@@ -31,9 +31,6 @@ const SEAT_SIZE: usize = 4;
 const MOST_ACTIVITIES: usize = 256;
 
 const MOST_SEATS: usize = 4096;
-
-// The first state that needs a direction.
-const CLOSING: u8 = 6;
 
 pub const REFUSED_SHORT: u8 = 1;
 
@@ -237,41 +234,44 @@ fn seats_good(book: &[u8]) -> bool
     i == s
 }
 
-// The state first: most states need no direction, and then nothing else is read.
-fn agree_at(book: &[u8], n: usize) -> bool
-    requires { ⌜ Shaped (now book) ⌝ }
-    requires { ⌜ seatsGood (now book) ≡ true ⌝ }
-    requires { ⌜ n < seatCount (now book) ⌝ }
-    ensures { λ r. ⌜ r ≡ agreesAt (now (book .entry)) n ⌝ }
+// Rule 5 at a good seat, found by sums and not by jumps: no processor foresees a seat's state, its role or its activity's kind.
+fn agree(kind: u8, direction: u8, role: u8, state: u8) -> bool
+    requires { ⌜ (1 ≤ kind) × (kind ≤ 2) ⌝ }
+    requires { ⌜ (1 ≤ role) × (role ≤ 2) ⌝ }
+    requires { ⌜ (direction < 3) × (state < 16) ⌝ }
+    ensures { λ r. ⌜ r ≡ agrees kind direction role state ⌝ }
 {
-    let x = read_seat(book, n);
-    if x.state < CLOSING {
-        return true;
-    }
-    let need = rules::direction_needed(x.state);
-    if need == rules::DIRECTION_NONE {
-        return true;
-    }
-    if x.role != rules::COORDINATOR {
-        return true;
-    }
-    let y = read_activity(book, x.activity);
-    if y.kind != ATOMIC {
-        return true;
-    }
-    need == y.direction
+    // 0 where a direction is asked of the seat: at an atomic activity's coordinator.
+    let free = (kind - ATOMIC) + (role - rules::COORDINATOR);
+    free + rules::direction_suits(direction, state) != 0
 }
 
-// No seat is against its activity's direction.
-fn directions_good(book: &[u8]) -> bool
+// A seat as rules 4 and 5 want it.
+fn seat_fits(book: &[u8], n: usize) -> bool
     requires { ⌜ Shaped (now book) ⌝ }
-    requires { ⌜ seatsGood (now book) ≡ true ⌝ }
-    ensures { λ r. ⌜ r ≡ directionsGood (now (book .entry)) ⌝ }
+    requires { ⌜ activitiesGood (now book) ≡ true ⌝ }
+    requires { ⌜ n < seatCount (now book) ⌝ }
+    ensures { λ r. ⌜ r ≡ fitsAt (now (book .entry)) n ⌝ }
+{
+    let x = read_seat(book, n);
+    let a = activity_count(book);
+    if !seat_good(a, x) {
+        return false;
+    }
+    let y = read_activity(book, x.activity);
+    agree(y.kind, y.direction, x.role, x.state)
+}
+
+// Every seat is one that the rules allow, and none is against its activity's direction.
+fn seats_fit(book: &[u8]) -> bool
+    requires { ⌜ Shaped (now book) ⌝ }
+    requires { ⌜ activitiesGood (now book) ≡ true ⌝ }
+    ensures { λ r. ⌜ r ≡ seatsFit (now (book .entry)) ⌝ }
 {
     let s = seat_count(book);
     let mut i: usize = 0;
     'walk: while i < s {
-        if !agree_at(book, i) {
+        if !seat_fits(book, i) {
             break 'walk;
         }
         i += 1;
@@ -279,7 +279,7 @@ fn directions_good(book: &[u8]) -> bool
     i == s
 }
 
-// The refusal of a book, or 0.
+// The refusal of a book, or 0. A good book is walked once for rules 4 and 5; only a bad one is walked again, to tell them apart.
 pub fn check(book: &[u8]) -> u8
     ensures { λ r. ⌜ r ≡ bookRefusal (now (book .entry)) ⌝ }
 {
@@ -292,11 +292,11 @@ pub fn check(book: &[u8]) -> u8
     if !activities_good(book) {
         return REFUSED_ACTIVITY;
     }
+    if seats_fit(book) {
+        return rules::GOOD;
+    }
     if !seats_good(book) {
         return REFUSED_SEAT;
     }
-    if !directions_good(book) {
-        return REFUSED_DIRECTION;
-    }
-    rules::GOOD
+    REFUSED_DIRECTION
 }

@@ -9,7 +9,7 @@ use Prim.Native.Nat.{ℕ, _+_, _*_, _/_, _%_, _≤_, _<_}
 use native.Mathlib.Omega.{arith}
 use lib.ListN.{length, drop, length-append}
 use lib.Dec.{ltb, leb, eqb}
-use borrow.Author.Tests.{eq-eqb, ne-eqb, le-ltb, lt-ltb}
+use borrow.Author.Tests.{eq-eqb, ne-eqb, eqb-true, eqb-false, le-ltb, lt-ltb, ltb-true, ltb-false}
 use Rattle.records.specs.declared.Event.{Event}
 use Rattle.records.specs.Records.{flat, firstEvents, eventsOf}
 use Rattle.records.specs.Laws.{flat-append, length-firstEvents}
@@ -20,16 +20,16 @@ use Rattle.rules.specs.Rules.{moves, entryOf, answerOf, legal}
 use Rattle.rules.specs.Single.{one-result}
 use Rattle.book.specs.declared.Activity.{Activity}
 use Rattle.book.specs.declared.Seat.{Seat}
-use Rattle.book.specs.Layout.{headSize, activityCount, seatCount, activityOf, seatOf, withState, withDirection}
+use Rattle.book.specs.Layout.{headSize, activityCount, seatCount, activityOf, seatOf, headOf, withState, withDirection}
 use Rattle.book.specs.Book.{headGood, activitiesGood, seatsGood, directionsGood, bookRefusal}
-use Rattle.book.specs.Good.{Good, good-of, good-to}
+use Rattle.book.specs.Good.{Good, good-of, good-to, seat-in}
 use Rattle.run.specs.Step.{refused, known, ruled, wanted, clashes, turned, judged, lotOf, answerTo, bookAfter, answerBytes}
 use Rattle.run.specs.Run.{after, answers, filled, mostEvents, runRefusal, runBook, runAnswers}
 use Rattle.run.specs.Kept.{run-good}
 use Rattle.run.specs.Joined.{after-joined, answers-joined, length-answers}
 use Rattle.demands.specs.Firsts.{Test, test, first, First, given, only-then}
 use Rattle.demands.specs.Groups.{inGroup, only, onlyTo, firstAnswers}
-use Rattle.demands.specs.Neighbours.{after-seat, after-activity, same-answers, same-books}
+use Rattle.demands.specs.Neighbours.{after-head, after-length, after-seat, after-activity, same-answers, same-books}
 use Rattle.demands.specs.Bytes.{answers-back, events-joined}
 
 -- Demand 1. Each refusal of a run is given exactly where its test applies and no earlier one does (`given`, `only-then`) ..
@@ -61,6 +61,12 @@ run-refuses b ev area = at (ltb (length b) headSize) (headGood b) (activitiesGoo
   at false true true true false = refl
   at false true true true true = refl
 
+pub run-exactly : (b ev area : List ℕ) (n : ℕ) → n ≢ 0 → runRefusal b ev area ≡ n → First (runTests b ev area) n
+run-exactly b ev area n nz e = only-then (runTests b ev area) n (sym (run-refuses b ev area) ∙ e) nz
+
+pub run-given : (b ev area : List ℕ) (n : ℕ) → First (runTests b ev area) n → runRefusal b ev area ≡ n
+run-given b ev area n f = run-refuses b ev area ∙ given (runTests b ev area) n f
+
 -- .. and so is each refusal of an event
 abbrev pub eventTests : List ℕ → Event → List Test
 eventTests b e =
@@ -71,6 +77,13 @@ eventTests b e =
     ∷ test 15 (clashes (lotOf b (e .seat) .direction) (wanted (lotOf b (e .seat) .kind) (seatOf b (e .seat) .role) (e .way) (e .message)))
     ∷ []
 
+-- an event's answer by what its tests say and its table's entry
+abbrev whole : Bool → Bool → Bool → Entry → Bool → ℕ → Answer
+whole t k m x c s =
+    cond (not t) (refused 11 0)
+    (cond (eqb (cond (not k) (refused 12 s) (cond (not m) (refused 13 s) (answerOf x s)) .refusal) 0 && c) (refused 15 s)
+    (cond (not k) (refused 12 s) (cond (not m) (refused 13 s) (answerOf x s))))
+
 pub event-refuses : (b : List ℕ) (e : Event) → answerTo b e .refusal ≡ first (eventTests b e)
 unfolding answerTo judged ruled
 event-refuses b e =
@@ -80,10 +93,7 @@ event-refuses b e =
     (seatOf b (e .seat) .state)
   where
     at : (t k m : Bool) (x : Entry) (c : Bool) (s : ℕ)
-        → cond (not t) (refused 11 0)
-        (cond (eqb (cond (not k) (refused 12 s) (cond (not m) (refused 13 s) (answerOf x s)) .refusal) 0 && c) (refused 15 s)
-        (cond (not k) (refused 12 s) (cond (not m) (refused 13 s) (answerOf x s)))) .refusal
-        ≡ cond (not t) 11 (cond (not k) 12 (cond (not m) 13 (cond (not (legal x)) 14 (cond c 15 0))))
+        → whole t k m x c s .refusal ≡ cond (not t) 11 (cond (not k) 12 (cond (not m) 13 (cond (not (legal x)) 14 (cond c 15 0))))
     at false k m x c s = refl
     at true false m x c s = refl
     at true true false x c s = refl
@@ -96,6 +106,36 @@ event-refuses b e =
     at true true true (Forget n) false s = refl
     at true true true (Reply n) true s = refl
     at true true true (Reply n) false s = refl
+
+pub event-exactly : (b : List ℕ) (e : Event) (n : ℕ) → n ≢ 0 → answerTo b e .refusal ≡ n → First (eventTests b e) n
+event-exactly b e n nz h = only-then (eventTests b e) n (sym (event-refuses b e) ∙ h) nz
+
+pub event-given : (b : List ℕ) (e : Event) (n : ℕ) → First (eventTests b e) n → answerTo b e .refusal ≡ n
+event-given b e n f = event-refuses b e ∙ given (eventTests b e) n f
+
+-- a refused event's answer is its number, its seat's state (0 where it names none), 0 and 0
+pub refused-answer : (b : List ℕ) (e : Event) → answerTo b e .refusal ≢ 0
+    → answerTo b e ≡ refused (answerTo b e .refusal) (cond (ltb (e .seat) (seatCount b)) (seatOf b (e .seat) .state) 0)
+unfolding answerTo judged ruled
+refused-answer b e =
+    at (ltb (e .seat) (seatCount b)) (known (e .way) (e .message)) (moves (seatOf b (e .seat) .role) (e .way) (e .message))
+    (entryOf (seatOf b (e .seat) .role) (seatOf b (e .seat) .table) (e .way) (e .message) (seatOf b (e .seat) .state))
+    (clashes (lotOf b (e .seat) .direction) (wanted (lotOf b (e .seat) .kind) (seatOf b (e .seat) .role) (e .way) (e .message)))
+    (seatOf b (e .seat) .state)
+  where
+    at : (t k m : Bool) (x : Entry) (c : Bool) (s : ℕ) → whole t k m x c s .refusal ≢ 0 → whole t k m x c s ≡ refused (whole t k m x c s .refusal) (cond t s 0)
+    at false k m x c s h = refl
+    at true false m x c s h = refl
+    at true true false x c s h = refl
+    at true true true Invalid c s h = refl
+    at true true true Ignore true s h = refl
+    at true true true Ignore false s h = absurd (h refl)
+    at true true true (Move n) true s h = refl
+    at true true true (Move n) false s h = absurd (h refl)
+    at true true true (Forget n) true s h = refl
+    at true true true (Forget n) false s h = absurd (h refl)
+    at true true true (Reply n) true s h = refl
+    at true true true (Reply n) false s h = absurd (h refl)
 
 -- a refused run changes no byte
 pub refused-run : (b ev area : List ℕ) → runRefusal b ev area ≢ 0 → (runBook b ev area ≡ b) × (runAnswers b ev area ≡ area)
@@ -124,6 +164,18 @@ pub record Ready (b ev area : List ℕ) : Type 0 where
 pub ready : (b ev area : List ℕ) → Ready b ev area → runRefusal b ev area ≡ 0
 unfolding runRefusal
 ready b ev area r = simp (eq-eqb _ _ (r .good), eq-eqb (length ev % 4) 0 (r .whole), le-ltb _ _ (r .few), le-ltb _ _ (r .room))
+
+pub only-ready : (b ev area : List ℕ) → runRefusal b ev area ≡ 0 → Ready b ev area
+unfolding runRefusal
+only-ready b ev area h = at (eqb (bookRefusal b) 0) refl (eqb (length ev % 4) 0) refl (ltb mostEvents (length ev / 4)) refl (ltb (length area) (length ev)) refl where
+  at : (g : Bool) → eqb (bookRefusal b) 0 ≡ g → (w : Bool) → eqb (length ev % 4) 0 ≡ w → (m : Bool) → ltb mostEvents (length ev / 4) ≡ m
+      → (s : Bool) → ltb (length area) (length ev) ≡ s → Ready b ev area
+  at false e w f m k s l = absurd (eqb-false _ _ e (simp e at h))
+  at true e false f m k s l = absurd (omega (arith, simp (e, f) at h))
+  at true e true f true k s l = absurd (omega (arith, simp (e, f, k) at h))
+  at true e true f false k true l = absurd (omega (arith, simp (e, f, k, l) at h))
+  at true e true f false k false l =
+      record { good = eqb-true _ _ e; whole = eqb-true _ _ f; few = ltb-false _ _ k; room = ltb-false _ _ l }
 
 module _ (b ev area : List ℕ) (r : Ready b ev area) where
   -- what a good run leaves: the book after all events, their answers in order from the start of the area, and the rest of the area
@@ -190,11 +242,17 @@ module _ (b : List ℕ) (e : Event) (a : Answered b e) where
     seats-stay m ne = after-seat b e (good-of b good) m ∙ simp (ne-eqb m n ne)
 
     -- a legal sent Close (Compensate) of an atomic activity's coordinator sets its direction if that was 0; nothing else sets one
-    pub activity-turns : x .activity < activityCount b → activityOf (bookAfter b e) (x .activity) ≡ withDirection y (turned (y .direction) (wanted (y .kind) (x .role) (e .way) (e .message)))
-    activity-turns l = after-activity b e (good-of b good) (x .activity) l ∙ simp (eq-eqb (x .activity) (x .activity) refl, unrefused)
+    pub activity-turns : activityOf (bookAfter b e) (x .activity) ≡ withDirection y (turned (y .direction) (wanted (y .kind) (x .role) (e .way) (e .message)))
+    activity-turns =
+        let l = seat-in b n (good-of b good .seats) (a .seat) in
+        after-activity b e (good-of b good) (x .activity) l ∙ simp (eq-eqb (x .activity) (x .activity) refl, unrefused)
 
     pub activities-stay : (k : ℕ) → k < activityCount b → k ≢ x .activity → activityOf (bookAfter b e) k ≡ activityOf b k
     activities-stay k l ne = after-activity b e (good-of b good) k l ∙ simp (ne-eqb k (x .activity) ne)
+
+-- no event changes the header or the length
+pub header-stays : (b : List ℕ) (e : Event) → bookRefusal b ≡ 0 → (headOf (bookAfter b e) ≡ headOf b) × (length (bookAfter b e) ≡ length b)
+header-stays b e good = (after-head b e (good-of b good), after-length b e (good-of b good))
 
 -- a run of two lists one after the other is the run of the joined list
 module _ (b ev ev′ area area′ whole : List ℕ) (r : Ready b ev area) (r′ : Ready b ev′ area′)

@@ -1,26 +1,19 @@
--- A rule over role, half and place is the bits of one number: antt computes all 64 and compares.
+-- A rule over rows and places is the bits of one number: antt computes all 64 and compares.
 -- Assumes nothing.
 use mathlib.Core.Path.{_≡_}
 use mathlib.Core.Bool.{Bool}
-use Prim.Native.Nat.{ℕ, _+_, _≤_, _<_}
+use Prim.Native.Nat.{ℕ, _<_}
 use native.Mathlib.Omega.{arith}
 use lib.Dec.{T}
 use Rattle.lemmas.specs.Bools.{same, same-is}
 use Rattle.lemmas.specs.Ranges.{each, each-at}
 use Rattle.rules.specs.Rules.{bitOf}
 
-module _ (marks : ℕ) (rule : ℕ → ℕ → ℕ → Bool) where
-  abbrev at : ℕ → ℕ → ℕ → Bool
-  at r h p = same (bitOf marks r h p) (rule r h p)
+module _ (marks rows : ℕ) (rule : ℕ → ℕ → Bool) where
+  abbrev at : ℕ → ℕ → Bool
+  at row place = same (bitOf marks row place) (rule row place)
 
-  abbrev pub marked : Bool
-  marked = each (λ r. each (λ h. each (λ p. at r h p) 0 16) 0 2) 1 2
-
-  pub bit-is : T marked → (r h p : ℕ) → 1 ≤ r → r ≤ 2 → h ≤ 1 → p < 16 → bitOf marks r h p ≡ rule r h p
-  bit-is t r h p rl rh hh ph =
+  pub bit-is : T (each (λ r. each (λ p. at r p) 0 16) 0 rows) → (row place : ℕ) → row < rows → place < 16 → bitOf marks row place ≡ rule row place
+  bit-is t row place r p =
       same-is _ _
-      (each-at (λ p. at r h p) 16 0
-      (each-at (λ h. each (λ p. at r h p) 0 16) 2 0
-      (each-at (λ r. each (λ h. each (λ p. at r h p) 0 16) 0 2) 2 1 t r rl (omega arith))
-      h (omega arith) (omega arith))
-      p (omega arith) (omega arith))
+      (each-at (λ p. at row p) 16 0 (each-at (λ r. each (λ p. at r p) 0 16) rows 0 t row (omega arith) (omega arith)) place (omega arith) (omega arith))

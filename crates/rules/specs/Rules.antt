@@ -1,6 +1,6 @@
 -- What a seat answers to a message, for every role, table, way, message and state.
 -- Assumes nothing.
-use Prim.Native.Nat.{ℕ, _+_, _*_, _-_, _/_, _%_, _^_}
+use Prim.Native.Nat.{ℕ, _+_, _*_, _/_, _%_, _^_}
 use mathlib.Core.Bool.{Bool, true, false, not, cond, _&&_, _||_}
 use lib.Dec.{leb, eqb}
 use Rattle.rules.specs.declared.Entry.{Entry}
@@ -60,6 +60,6 @@ legal (Move next) = true
 legal (Forget next) = true
 legal (Reply m) = true
 
--- bit 32 (role - 1) + 16 half + place of a number of marks
-unfoldable pub bitOf : ℕ → ℕ → ℕ → ℕ → Bool
-bitOf marks role half place = eqb (marks / 2 ^ (32 * (role - 1) + 16 * half + place) % 2) 1
+-- bit 16 row + place of a number of marks
+unfoldable pub bitOf : ℕ → ℕ → ℕ → Bool
+bitOf marks row place = eqb (marks / 2 ^ (16 * row + place) % 2) 1

@@ -1,12 +1,12 @@
 -- Two results that a contract allows are equal, for each public function: each contract is an equation to a definition.
 -- Assumes nothing.
 use mathlib.Core.Path.{_≡_, sym, _∙_}
-use mathlib.Core.Bool.{Bool}
+use mathlib.Core.Bool.{Bool, cond}
 use Prim.Native.Nat.{ℕ}
 use Rattle.rules.specs.declared.Entry.{Entry}
 use Rattle.rules.specs.declared.Answer.{Answer}
 use Rattle.rules.specs.Rules.{hasState, moves, entryOf, answerOf}
-use Rattle.rules.specs.Outcome.{neededBy, askedBy}
+use Rattle.rules.specs.Outcome.{askedBy, suits}
 
 pub one-result : {A : Type 0} {x r r′ : A} → r ≡ x → r′ ≡ x → r ≡ r′
 one-result p q = p ∙ sym q
@@ -24,8 +24,8 @@ module _ (role table way m s : ℕ) (e : Entry) where
   pub answer-of-single : (r r′ : Answer) → r ≡ answerOf e s → r′ ≡ answerOf e s → r ≡ r′
   answer-of-single r r′ = one-result
 
-  pub direction-needed-single : (r r′ : ℕ) → r ≡ neededBy s → r′ ≡ neededBy s → r ≡ r′
-  direction-needed-single r r′ = one-result
+  pub direction-suits-single : (d r r′ : ℕ) → r ≡ cond (suits d s) 1 0 → r′ ≡ cond (suits d s) 1 0 → r ≡ r′
+  direction-suits-single d r r′ = one-result
 
   pub direction-asked-single : (r r′ : ℕ) → r ≡ askedBy m → r′ ≡ askedBy m → r ≡ r′
   direction-asked-single r r′ = one-result

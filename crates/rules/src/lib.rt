@@ -3,10 +3,11 @@ mod message;
 mod state;
 
 ghost use mathlib.Core.Path.{_≡_};
-ghost use Prim.Native.Nat.{_<_, _≤_};
+ghost use mathlib.Core.Bool.{true, cond};
+ghost use Prim.Native.Nat.{_<_};
 ghost use Rattle.rules.specs.Tables.{coordinatorReceives, coordinatorSends, participantReceives, participantSends, lateOf, endsOf, againOf};
 ghost use Rattle.rules.specs.Rules.{hasState, entryOf, moves, answerOf, bitOf};
-ghost use Rattle.rules.specs.Outcome.{neededBy, askedBy};
+ghost use Rattle.rules.specs.Outcome.{askedBy, suits};
 
 // What a table says of a state and a message.
 pub enum Entry {
@@ -51,10 +52,12 @@ pub const DIRECTION_CLOSE: u8 = 1;
 
 pub const DIRECTION_COMPENSATE: u8 = 2;
 
-// The states of a role under a table, and the messages that it moves a way, a bit each: see `bit`.
+// A bit each (see `bit`): the states of a role under a table, the messages that a role moves a way, the states that suit a direction.
 const STATES: u64 = 0xfff6_1ff6_fffe_1ffe;
 
 const MOVES: u64 = 0x7f00_00fe_00fe_7f00;
+
+const SUITS: u64 = 0xffbf_fd7f_fd3f;
 
 pub const GOOD: u8 = 0;
 
@@ -330,12 +333,12 @@ fn participant_sends(split: bool, m: u8, s: u8) -> Entry
     }
 }
 
-// Bit 32 (role - 1) + 16 half + place of a number of marks.
-fn bit(marks: u64, role: u8, half: u8, place: u8) -> bool
-    requires { ⌜ (1 ≤ role) × (role ≤ 2) × (half ≤ 1) × (place < 16) ⌝ }
-    ensures { λ r. ⌜ r ≡ bitOf marks role half place ⌝ }
+// Bit 16 row + place of a number of marks.
+fn bit(marks: u64, row: u8, place: u8) -> bool
+    requires { ⌜ (row < 4) × (place < 16) ⌝ }
+    ensures { λ r. ⌜ r ≡ bitOf marks row place ⌝ }
 {
-    let at = 32 * (role as u64 - 1) + 16 * (half as u64) + place as u64;
+    let at = 16 * (row as u64) + place as u64;
     (marks >> at) % 2 == 1
 }
 
@@ -358,7 +361,7 @@ pub fn has_state(role: u8, table: u8, s: u8) -> bool
     if state::LAST < s {
         return false;
     }
-    bit(STATES, role, table - PLAIN, s)
+    bit(STATES, 2 * (role - COORDINATOR) + (table - PLAIN), s)
 }
 
 // Whether a role moves a message that way.
@@ -377,16 +380,22 @@ pub fn moves_message(role: u8, way: u8, m: u8) -> bool
     if message::COMPENSATED < m {
         return false;
     }
-    bit(MOVES, role, way, m)
+    bit(MOVES, 2 * (role - COORDINATOR) + way, m)
 }
 
-// What the tables say of a seat in state `s` that received or sends the message.
-pub fn entry_at(role: u8, table: u8, way: u8, m: u8, s: u8) -> Entry
+// 1 where a coordinator's state suits its atomic activity's direction, else 0: a number, so that a walk need not jump by it.
+pub fn direction_suits(direction: u8, s: u8) -> u8
+    requires { ⌜ (direction < 3) × (s < 16) ⌝ }
+    ensures { λ r. ⌜ r ≡ cond (suits direction s) 1 0 ⌝ }
+{
+    bit(SUITS, direction, s) as u8
+}
+
+// What the tables say of a seat in state `s` that received or sends the message, for a state that the role has.
+pub fn entry_in(role: u8, table: u8, way: u8, m: u8, s: u8) -> Entry
+    requires { ⌜ hasState role table s ≡ true ⌝ }
     ensures { λ r. ⌜ r ≡ entryOf role table way m s ⌝ }
 {
-    if !has_state(role, table, s) {
-        return Entry::Invalid;
-    }
     let split = table == SPLIT;
     match way {
         RECEIVED => if role == COORDINATOR {
@@ -401,6 +410,16 @@ pub fn entry_at(role: u8, table: u8, way: u8, m: u8, s: u8) -> Entry
         },
         _ => Entry::Invalid,
     }
+}
+
+// The same for any role, table, way, message and state.
+pub fn entry_at(role: u8, table: u8, way: u8, m: u8, s: u8) -> Entry
+    ensures { λ r. ⌜ r ≡ entryOf role table way m s ⌝ }
+{
+    if !has_state(role, table, s) {
+        return Entry::Invalid;
+    }
+    entry_in(role, table, way, m, s)
 }
 
 // An entry in the outline's numbers, at a seat in state `s`.
@@ -438,18 +457,6 @@ pub fn answer_of(e: Entry, s: u8) -> Answer
             action: REPLY,
             reply: m,
         },
-    }
-}
-
-// The direction that a coordinator's state needs in an atomic activity, or 0.
-pub fn direction_needed(s: u8) -> u8
-    ensures { λ r. ⌜ r ≡ neededBy s ⌝ }
-{
-    match s {
-        state::CLOSING => DIRECTION_CLOSE,
-        state::COMPENSATING => DIRECTION_COMPENSATE,
-        state::FAILING_COMPENSATING => DIRECTION_COMPENSATE,
-        _ => DIRECTION_NONE,
     }
 }
 

@@ -212,10 +212,28 @@ fn needed() {
     write(b"needed:");
     let mut i: usize = 0;
     while i < 256 {
-        directed(i, rules::direction_needed(i as u8));
+        directed(i, needed_by(i));
         i += 1;
     }
     show::line_end();
+}
+
+// The direction that a state needs: it suits that one, and not none.
+fn needed_by(i: usize) -> u8 {
+    if 15 < i {
+        return rules::DIRECTION_NONE;
+    }
+    let s = i as u8;
+    if rules::direction_suits(rules::DIRECTION_NONE, s) == 1 {
+        return rules::DIRECTION_NONE;
+    }
+    if rules::direction_suits(rules::DIRECTION_CLOSE, s) == 1 {
+        return rules::DIRECTION_CLOSE;
+    }
+    if rules::direction_suits(rules::DIRECTION_COMPENSATE, s) == 1 {
+        return rules::DIRECTION_COMPENSATE;
+    }
+    255
 }
 
 fn asked() {

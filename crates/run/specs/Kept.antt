@@ -19,7 +19,7 @@ use Rattle.rules.specs.declared.Entry.the-variants.{Invalid, Ignore, Move, Forg
 use Rattle.rules.specs.declared.Answer.{Answer}
 use Rattle.rules.specs.Numbers.{sent, coordinator, close, compensate}
 use Rattle.rules.specs.Rules.{moves, entryOf, answerOf, legal, hasState}
-use Rattle.rules.specs.Outcome.{neededBy, askedBy}
+use Rattle.rules.specs.Outcome.{neededBy, suits, askedBy}
 use Rattle.rules.specs.Laws.{legal-good, next-has, next-turns, Turns, none, kept, asked as turns-asked}
 use Rattle.book.specs.declared.Activity.{Activity}
 use Rattle.book.specs.declared.Seat.{Seat}
@@ -133,7 +133,7 @@ turned-good kind role way m dir h =
 mine : (y : Activity) (x : Seat) (way m : ℕ) → Ruled x way m → clashes (y .direction) (wanted (y .kind) (x .role) way m) ≡ false
     → agrees (y .kind) (y .direction) (x .role) (x .state) ≡ true
     → agrees (y .kind) (turned (y .direction) (wanted (y .kind) (x .role) way m)) (x .role) (ruled x way m .state) ≡ true
-unfolding agrees
+unfolding agrees suits
 mine y x way m r calm old = at (eqb (y .kind) atomic && eqb (x .role) coordinator) refl where
   next : ℕ
   next = answerOf (entryOf (x .role) (x .table) way m (x .state)) (x .state) .state
@@ -160,7 +160,7 @@ mine y x way m r calm old = at (eqb (y .kind) atomic && eqb (x .role) coordinato
 -- and so does every other seat of the activity
 theirs : (y : Activity) (w role state : ℕ) → clashes (y .direction) w ≡ false → agrees (y .kind) (y .direction) role state ≡ true
     → agrees (y .kind) (turned (y .direction) w) role state ≡ true
-unfolding agrees
+unfolding agrees suits
 theirs y w role state calm old = at (eqb (y .kind) atomic && eqb role coordinator) refl where
   at : (t : Bool) → (eqb (y .kind) atomic && eqb role coordinator) ≡ t → cond t (eqb (neededBy state) 0 || eqb (neededBy state) (turned (y .direction) w)) true ≡ true
   at false e = refl

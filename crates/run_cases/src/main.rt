@@ -3,7 +3,8 @@
 // then the book and the events. The area is filled with 165 before the call.
 ghost use mathlib.Core.Path.{_≡_};
 ghost use lib.ListN.{length};
-use libc::{STDIN_FILENO, STDOUT_FILENO};
+use libc::STDIN_FILENO;
+use libc::STDOUT_FILENO;
 
 const FILLED: u8 = 165;
 // More cases than an input has: nothing says that an input ends.
@@ -44,7 +45,12 @@ fn next_case(n: usize, book: &mut [u8], events: &mut [u8], area: &mut [u8]) -> b
     if area.len() < area_size {
         return false;
     }
-    one_case(n, &mut book[..book_size], &mut events[..events_size], &mut area[..area_size])
+    one_case(
+        n,
+        &mut book[..book_size],
+        &mut events[..events_size],
+        &mut area[..area_size],
+    )
 }
 
 fn one_case(n: usize, book: &mut [u8], events: &mut [u8], area: &mut [u8]) -> bool {

@@ -2,8 +2,8 @@
 -- Assumes nothing.
 use borrow.Author.Needs.{needs}
 use native.Mathlib.Omega.{arith}
-use mathlib.Core.Path.{_≡_, sym, _∙_, ap}
-use Prim.Native.Nat.{ℕ, _+_, _-_}
+use mathlib.Core.Path.{_≡_, sym, _∙_, ap₂}
+use Prim.Native.Nat.{ℕ, _+_, _*_, _-_, _/_, _%_}
 use Rattle.lemmas.specs.Bools.{never-true}
 use Rattle.rules.specs.Rules.{hasState, lastState, bitOf}
 use Rattle.rules.specs.Laws.{has-state}
@@ -15,10 +15,12 @@ returns-6 : tie.Need-returns-6
 unfolding hasState lastState bitOf
 returns-6 c =
     let x = c .before .before .before .before .before .before .args in
-    let back : x .table - 1 + 1 ≡ x .table = omega arith in
+    let row = 2 * (x .role - 1) + (x .table - 1) in
+    let r : row / 2 + 1 ≡ x .role = omega arith in
+    let t : row % 2 + 1 ≡ x .table = omega arith in
     c .bit .ensures
-    ∙ bit-is 0xfff61ff6fffe1ffe (λ r h p. hasState r (h + 1) p) tt (x .role) (x .table - 1) (x .s) (omega arith) (omega arith) (omega arith) (omega arith)
-    ∙ ap (λ (t : ℕ). hasState (x .role) t (x .s)) back
+    ∙ bit-is 0xfff61ff6fffe1ffe 4 (λ row s. hasState (row / 2 + 1) (row % 2 + 1) s) tt row (x .s) (omega arith) (omega arith)
+    ∙ ap₂ (λ (a b : ℕ). hasState a b (x .s)) r t
 
 pub has-state-spec : {M : Type 1} → statement M
 has-state-spec =
@@ -29,5 +31,7 @@ has-state-spec =
     (λ c. sym (never-true _ (λ h. let i = has-state _ _ _ h in omega arith)))
     (λ c. sym (never-true _ (λ h. let i = has-state _ _ _ h in omega arith)))
     (λ c. sym (never-true _ (λ h. let i = has-state _ _ _ h in omega arith)))
+    (λ c. search needs)
+    (λ c. search needs)
     (λ c κs. search needs)
     returns-6)

@@ -2,8 +2,8 @@
 -- Assumes nothing.
 use borrow.Author.Needs.{needs}
 use native.Mathlib.Omega.{arith}
-use mathlib.Core.Path.{_≡_, sym, _∙_, ap}
-use Prim.Native.Nat.{_+_, _-_}
+use mathlib.Core.Path.{_≡_, sym, _∙_, ap₂}
+use Prim.Native.Nat.{ℕ, _+_, _*_, _-_, _/_, _%_}
 use Rattle.lemmas.specs.Bools.{never-true}
 use Rattle.rules.specs.Rules.{moves, sends, receives, bitOf}
 use Rattle.rules.specs.Laws.{moves-in}
@@ -15,7 +15,12 @@ returns-5 : tie.Need-returns-5
 unfolding moves sends receives bitOf
 returns-5 c =
     let x = c .before .before .before .before .before .args in
-    c .bit .ensures ∙ bit-is 0x7f0000fe00fe7f00 moves tt (x .role) (x .way) (x .m) (omega arith) (omega arith) (omega arith) (omega arith)
+    let row = 2 * (x .role - 1) + x .way in
+    let r : row / 2 + 1 ≡ x .role = omega arith in
+    let w : row % 2 ≡ x .way = omega arith in
+    c .bit .ensures
+    ∙ bit-is 0x7f0000fe00fe7f00 4 (λ row m. moves (row / 2 + 1) (row % 2) m) tt row (x .m) (omega arith) (omega arith)
+    ∙ ap₂ (λ (a b : ℕ). moves a b (x .m)) r w
 
 pub moves-message-spec : {M : Type 1} → statement M
 moves-message-spec =
@@ -25,5 +30,7 @@ moves-message-spec =
     (λ c. sym (never-true _ (λ h. let i = moves-in _ _ _ h in omega arith)))
     (λ c. sym (never-true _ (λ h. let i = moves-in _ _ _ h in omega arith)))
     (λ c. sym (never-true _ (λ h. let i = moves-in _ _ _ h in omega arith)))
+    (λ c. search needs)
+    (λ c. search needs)
     (λ c κs. search needs)
     returns-5)

@@ -19,13 +19,12 @@ abbrev μ-loop : tie.MeasureT-loop
 loop-again : tie.Need-loop-again Inv-loop μ-loop
 loop-again c =
     let l = c .before .loop in
-    let v = c .before .before .args .value in
-    (
+    let v = c .before .before .args .value in (
       omega arith,
       simp length-set (l .inv .1),
       below-more _ (l .i)
-      (λ k h. getD-set-other (l .area) (l .i) k v 0 (λ e. omega arith) ∙ l .inv .2 k h)
-      (getD-set-same (l .area) (l .i) v 0 (omega arith)),
+          (λ k h. getD-set-other (l .area) (l .i) k v 0 (λ e. omega arith) ∙ l .inv .2 k h)
+          (getD-set-same (l .area) (l .i) v 0 (omega arith)),
     )
 
 pub fill-spec : {M : Type 1} → statement M

@@ -6,15 +6,15 @@ use Rattle.book.specs.Layout.{Shaped}
 use borrow.Author.Needs.{needs}
 use Prim.Native.Nat.{ℕ, _+_, _*_, _-_, _≤_, _<_}
 use native.Mathlib.Omega.{arith}
-use Rattle.book.specs.Book.{directionsGood, agreesAt}
+use Rattle.book.specs.Book.{seatsFit, fitsAt}
 use mathlib.Core.Bool.{Bool, true, false}
 use mathlib.Core.Path.{_≡_, refl, sym, _∙_, ap}
 use borrow.Author.Tests.{eq-eqb, ne-eqb, le-ltb, lt-ltb, not-true, not-false, ltb-true}
-use Rattle.book.proofs.directions_good.Statement.{statement}
-use Rattle.book.proofs.directions_good.Tie as tie
+use Rattle.book.proofs.seats_fit.Statement.{statement}
+use Rattle.book.proofs.seats_fit.Tie as tie
 
 abbrev Inv-walk : tie.InvT-walk
-Inv-walk book s i₀ i = (i ≤ s) × (every (agreesAt book) i ≡ true)
+Inv-walk book s i₀ i = (i ≤ s) × (every (fitsAt book) i ≡ true)
 
 abbrev μ-walk : tie.MeasureT-walk
 μ-walk book s i₀ i = s - i
@@ -25,8 +25,8 @@ seat-count-requires c κs = omega arith
 walk-holds : tie.Need-walk-holds Inv-walk μ-walk
 walk-holds c = (search needs, every-none _)
 
-agree-at-requires : tie.Need-agree-at-requires Inv-walk μ-walk
-agree-at-requires c κs = (c .before .before .before .before .pre .0, (c .before .before .before .before .pre .1, omega arith))
+seat-fits-requires : tie.Need-seat-fits-requires Inv-walk μ-walk
+seat-fits-requires c κs = (c .before .before .before .before .pre .0, (c .before .before .before .before .pre .1, omega arith))
 
 add-i : tie.Need-add-i Inv-walk μ-walk
 add-i c = omega arith
@@ -35,24 +35,24 @@ walk-less : tie.Need-walk-less Inv-walk μ-walk
 walk-less c = omega arith
 
 walk-again : tie.Need-walk-again Inv-walk μ-walk
-walk-again c = (omega arith, every-more _ _ (c .before .before .before .walk .inv .1) (sym (c .before .agree-at .ensures) ∙ not-false _ (c .if1 .left)))
+walk-again c = (omega arith, every-more _ _ (c .before .before .before .walk .inv .1) (sym (c .before .seat-fits .ensures) ∙ not-false _ (c .if1 .left)))
 
 returns : tie.Need-returns Inv-walk μ-walk
-unfolding directionsGood
+unfolding seatsFit
 returns c = let e = c .before .before .seat-count .ensures .0 in
     let v = c .before .walk .inv in
     ⊎-elim (λ w. walk-end _ _ e (v .0) (v .1) (w .left)) (λ w. walk-left _ _ e (w .0 .taken) (sym (w .1 .ensures) ∙ not-true _ (w .2 .taken)))
     (c .walk-test .came)
 
-pub directions-good-spec : {M : Type 1} → statement M
-directions-good-spec =
+pub seats-fit-spec : {M : Type 1} → statement M
+seats-fit-spec =
     tie.close
     (tie.spec
     Inv-walk
     μ-walk
     seat-count-requires
     walk-holds
-    agree-at-requires
+    seat-fits-requires
     add-i
     walk-less
     walk-again
