@@ -1,9 +1,15 @@
 /* The run by hand in C, for x86-64: whole records in one load, one pass over the
  * seats, one table look-up for an event. The journal is in journal.c. */
 #include "engine.h"
-#include "rules.h"
 
 #include <string.h>
+
+/* The answer's four bytes as one little-endian number, save that the refusal's
+ * byte, 0 in a legal answer, holds the direction. */
+typedef uint32_t rule;
+#define RULE(direction, state, action, reply) \
+    ((rule)(direction) | (rule)(state) << 8 | (rule)(action) << 16 | (rule)(reply) << 24)
+#include "rules.h"
 
 #define UNLIKELY(test) __builtin_expect(!!(test), 0)
 
@@ -139,9 +145,9 @@ static inline int takes_outcome(uint8_t *activity, uint8_t asked)
 }
 
 /* The row's message and way go over the six bits of the seat, as in ROW. */
-static inline uint32_t rule_of(uint32_t event, uint32_t record)
+static inline rule rule_of(uint32_t event, uint32_t record)
 {
-    const uint32_t *flat = &rules[0][0];
+    const rule *flat = &rules[0][0];
     uint32_t row = (event >> 17 & 0x780) | (event >> 10 & 0x40);
     return event & EVENT_JUNK ? 0 : flat[row | seat_bit(record - RECORD_BASE)];
 }
@@ -159,19 +165,19 @@ static void work_events(uint8_t *restrict activities, uint8_t *restrict seats,
         }
         uint8_t *seat = seats + LOTEND_SEAT_BYTES * number;
         uint32_t record = load32(seat);
-        uint32_t rule = rule_of(event, record);
-        if (UNLIKELY(rule == 0)) {
+        rule found = rule_of(event, record);
+        if (UNLIKELY(found == 0)) {
             store32(answers + at, refused_event(event, record));
             continue;
         }
-        uint32_t asked = rule & 0xFF;
+        uint32_t asked = found & 0xFF;
         if (asked && !takes_outcome(activities + LOTEND_ACTIVITY_BYTES * (record & 0xFF), asked)) {
             store32(answers + at, LOTEND_REFUSED_OUTCOME | record >> 24 << 8);
             continue;
         }
         /* The whole record: a lone byte would hold up the next load of it. */
-        store32(seat, (record & 0xFFFFFF) | (rule & 0xFF00) << 16);
-        store32(answers + at, rule & ~0xFFu);
+        store32(seat, (record & 0xFFFFFF) | (found & 0xFF00) << 16);
+        store32(answers + at, found & ~0xFFu);
     }
 }
 

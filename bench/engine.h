@@ -1,4 +1,4 @@
-/* The same two functions by hand in C: the speed that the library is held to. */
+/* The two functions by hand in C for x86-64, with word loads, bit tricks and SSE2. */
 #ifndef PLAIN_ENGINE_H
 #define PLAIN_ENGINE_H
 

@@ -4,17 +4,14 @@
  * State. The states stand as numbers, so that a row can be read beside the
  * outline's.
  *
- * A rule is the answer's four bytes as one little-endian number, save that the
- * refusal's byte, 0 in a legal answer, holds the direction that the event asks
- * of an atomic activity. */
-#ifndef PLAIN_RULES_H
-#define PLAIN_RULES_H
+ * How a rule is kept is the engine's affair: before it includes this it defines the
+ * type `rule` and RULE(direction, state, action, reply), where the direction is
+ * what the event asks of an atomic activity. */
+#ifndef BENCH_RULES_H
+#define BENCH_RULES_H
 
 #include "../include/lotend.h"
 
-#define RULE(direction, state, action, reply) \
-    ((uint32_t)(direction) | (uint32_t)(state) << 8 | (uint32_t)(action) << 16 | \
-     (uint32_t)(reply) << 24)
 #define MOVE(from, to) [from] = RULE(0, to, LOTEND_ACTION_NONE, 0)
 #define FORGET(from, to) [from] = RULE(0, to, LOTEND_ACTION_FORGET, 0)
 #define IGNORE(at) [at] = RULE(0, at, LOTEND_ACTION_IGNORE, 0)
@@ -27,15 +24,16 @@
 #define IGNORE_ENDED_S IGNORE(12), IGNORE3(13, 14, 15)
 #define FROM_1_TO_4(to) MOVE(1, to), MOVE(2, to), MOVE(3, to), MOVE(4, to)
 
-#define ROW(role, table, way, message) \
-    (LOTEND_MESSAGE_##message << 3 | LOTEND_WAY_##way << 2 | \
-     (LOTEND_ROLE_##role - 1) << 1 | (LOTEND_TABLE_##table - 1))
-#define GOT_C(table, message) [ROW(COORDINATOR, table, RECEIVED, message)]
-#define SENT_C(table, message) [ROW(COORDINATOR, table, SENT, message)]
-#define GOT_P(table, message) [ROW(PARTICIPANT, table, RECEIVED, message)]
-#define SENT_P(table, message) [ROW(PARTICIPANT, table, SENT, message)]
+enum { RULE_WAYS = 2, RULE_MESSAGES = 16, RULE_ROWS = RULE_MESSAGES << 3, RULE_STATES = 16 };
 
-enum { RULE_ROWS = 128, RULE_STATES = 16 };
+#define ROW(role, table, way, message) \
+    ((message) << 3 | (way) << 2 | ((role) - 1) << 1 | ((table) - 1))
+#define ROW_OF(role, table, way, message) \
+    [ROW(LOTEND_ROLE_##role, LOTEND_TABLE_##table, LOTEND_WAY_##way, LOTEND_MESSAGE_##message)]
+#define GOT_C(table, message) ROW_OF(COORDINATOR, table, RECEIVED, message)
+#define SENT_C(table, message) ROW_OF(COORDINATOR, table, SENT, message)
+#define GOT_P(table, message) ROW_OF(PARTICIPANT, table, RECEIVED, message)
+#define SENT_P(table, message) ROW_OF(PARTICIPANT, table, SENT, message)
 
 /* What both tables say alike. */
 #define C_GOT_EXIT FROM_1_TO_4(11), IGNORE(11)
@@ -76,7 +74,7 @@ enum { RULE_ROWS = 128, RULE_STATES = 16 };
 #define P_SENT_CLOSED(end) FORGET(6, end), MOVE(end, end)
 #define P_SENT_COMPENSATED(end) FORGET(7, end), MOVE(end, end)
 
-static const uint32_t rules[RULE_ROWS][RULE_STATES] = {
+static const rule rules[RULE_ROWS][RULE_STATES] = {
     GOT_C(PLAIN, EXIT) = {C_GOT_EXIT, REPLY(12, EXITED)},
     GOT_C(SPLIT, EXIT) = {C_GOT_EXIT, REPLY(14, EXITED), IGNORE3(12, 13, 15)},
     GOT_C(PLAIN, COMPLETED) = {C_GOT_COMPLETED, IGNORE_ENDED_P},

@@ -52,6 +52,9 @@ pub fn rows() -> Vec<Row> {
             "256 activities, 4096 seats, no events",
             |random| Work::run(good_book(FULL, random), Vec::new()),
         ),
+        small("small-check", "2 seats, no events", || {
+            Work::run(EXAMPLE_BOOK.to_vec(), Vec::new())
+        }),
         varied(
             "all-refused",
             "as full-run, every event refused",

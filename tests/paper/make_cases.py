@@ -11,6 +11,7 @@ import engine
 import journal_cases
 import rule_lines
 import run_cases
+import tables_page
 
 FOLDER = Path("crates")
 MAKERS = (("run_cases", run_cases), ("journal_cases", journal_cases), ("desk_cases", desk_cases))
@@ -37,6 +38,7 @@ def make_all():
         print_tally(name, vectors)
         made[FOLDER / name / "stdin"] = vectors.stdin
         made[FOLDER / name / "stdout"] = vectors.stdout
+    made[FOLDER / "tables_page" / "stdout"] = tables_page.expected()
     made[FOLDER / "lotend" / "stdin"] = desk_cases.EXAMPLE
     made[FOLDER / "lotend" / "stdout"] = engine.report(desk_cases.EXAMPLE)
     return made

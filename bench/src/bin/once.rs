@@ -9,7 +9,7 @@ fn main() {
     let [engine, name, times] = words.as_slice() else {
         panic!("once ENGINE ROW TIMES");
     };
-    let engine = Engine::named(engine).expect("library, c, rust or nothing");
+    let engine = Engine::named(engine).expect("library, c-portable, c-x86-64, rust or nothing");
     let mut row = row(name).expect("a row of the benchmark");
     let times: usize = times.parse().expect("a number of times");
     for _ in 0..times {

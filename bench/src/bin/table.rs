@@ -2,6 +2,7 @@
 
 use bench::engines::{Engine, ENGINES};
 use bench::rows::{rows, rows_by_events, rows_by_seats, Row};
+use std::fmt::Display;
 use std::time::Instant;
 
 const ROUNDS: usize = 201;
@@ -12,6 +13,7 @@ type Medians = [f64; ENGINES.len()];
 fn main() {
     println!("One process, turn and turn about; medians of {ROUNDS} rounds, in nanoseconds.");
     println!("C: gcc -O3, plain x86-64, no -march=native. Rust: release, link-time optimised.");
+    println!("C portable: C99, byte loads. C x86-64: word loads, bit tricks and SSE2.");
     println!("Books are restored by copy before each round, outside of the timed part; answer");
     println!("and event areas are not cleared.");
     println!();
@@ -67,15 +69,23 @@ fn median(mut times: Vec<f64>) -> f64 {
 }
 
 fn print_head(title: &str) {
-    println!(
-        "{title:54} {:>9} {:>9} {:>9} {:>10} {:>13}",
-        "library", "C", "Rust", "library/C", "library/Rust"
-    );
+    let titles = ENGINES.map(Engine::title);
+    let times = columns(titles.iter());
+    let ratios = columns(titles[1..].iter());
+    let middle = times.len();
+    println!("{:50} {:middle$}    {} to", "", "", titles[0]);
+    println!("{title:50} {times}    {ratios}");
 }
 
-fn print_row(title: &str, [library, c, rust]: Medians) {
-    let (to_c, to_rust) = (library / c, library / rust);
-    println!("{title:54} {library:9.0} {c:9.0} {rust:9.0} {to_c:10.2} {to_rust:13.2}");
+fn print_row(title: &str, medians: Medians) {
+    let [library, others @ ..] = medians;
+    let times = columns(medians.iter().map(|time| format!("{time:.0}")));
+    let ratios = columns(others.iter().map(|other| format!("{:.2}", library / other)));
+    println!("{title:50} {times}    {ratios}");
+}
+
+fn columns(cells: impl Iterator<Item = impl Display>) -> String {
+    cells.map(|cell| format!("{cell:>11}")).collect()
 }
 
 fn print_doubling(rows: Vec<Row>) {
@@ -84,12 +94,9 @@ fn print_doubling(rows: Vec<Row>) {
         let medians = measure(&mut row);
         print_row(&row.title, medians);
         if let Some(before) = before {
-            let growth: Vec<String> = medians
-                .iter()
-                .zip(before)
-                .map(|(now, before)| format!("{:>9}", format!("x{:.2}", now / before)))
-                .collect();
-            println!("{:54} {}", "", growth.join(" "));
+            let growth = medians.iter().zip(before).map(|(now, before)| now / before);
+            let growth = columns(growth.map(|times| format!("x{times:.2}")));
+            println!("{:50} {growth}", "");
         }
         before = Some(medians);
     }

@@ -22,25 +22,25 @@ pub const ATOMIC: u8 = 1;
 
 pub const MIXED: u8 = 2;
 
-const HEAD_SIZE: usize = 8;
+pub const HEAD_SIZE: usize = 8;
 
-const ACTIVITY_SIZE: usize = 2;
+pub const ACTIVITY_SIZE: usize = 2;
 
-const SEAT_SIZE: usize = 4;
+pub const SEAT_SIZE: usize = 4;
 
-const MOST_ACTIVITIES: usize = 256;
+pub const ACTIVITIES_MOST: usize = 256;
 
-const MOST_SEATS: usize = 4096;
+pub const SEATS_MOST: usize = 4096;
 
-pub const REFUSED_SHORT: u8 = 1;
+pub const REFUSED_BOOK_SHORT: u8 = 1;
 
-pub const REFUSED_NUMBERS: u8 = 2;
+pub const REFUSED_LAYOUT: u8 = 2;
 
 pub const REFUSED_ACTIVITY: u8 = 3;
 
 pub const REFUSED_SEAT: u8 = 4;
 
-pub const REFUSED_DIRECTION: u8 = 5;
+pub const REFUSED_SEAT_DIRECTION: u8 = 5;
 
 fn wide(x: u8) -> usize
     ensures { λ r. ⌜ r ≡ x ⌝ }
@@ -148,10 +148,10 @@ fn activity_good(kind: u8, direction: u8) -> bool
 fn numbers_good(a: usize, s: usize, acts: usize, seats: usize, len: usize) -> bool
     ensures { λ r. ⌜ r ≡ numbersGood a s acts seats len ⌝ }
 {
-    if MOST_ACTIVITIES < a {
+    if ACTIVITIES_MOST < a {
         return false;
     }
-    if MOST_SEATS < s {
+    if SEATS_MOST < s {
         return false;
     }
     if acts != HEAD_SIZE {
@@ -284,10 +284,10 @@ pub fn check(book: &[u8]) -> u8
     ensures { λ r. ⌜ r ≡ bookRefusal (now (book .entry)) ⌝ }
 {
     if book.len() < HEAD_SIZE {
-        return REFUSED_SHORT;
+        return REFUSED_BOOK_SHORT;
     }
     if !head_good(book) {
-        return REFUSED_NUMBERS;
+        return REFUSED_LAYOUT;
     }
     if !activities_good(book) {
         return REFUSED_ACTIVITY;
@@ -298,5 +298,5 @@ pub fn check(book: &[u8]) -> u8
     if !seats_good(book) {
         return REFUSED_SEAT;
     }
-    REFUSED_DIRECTION
+    REFUSED_SEAT_DIRECTION
 }

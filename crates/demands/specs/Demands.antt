@@ -23,7 +23,7 @@ use Rattle.book.specs.declared.Seat.{Seat}
 use Rattle.book.specs.Layout.{headSize, activityCount, seatCount, activityOf, seatOf, headOf, withState, withDirection}
 use Rattle.book.specs.Book.{headGood, activitiesGood, seatsGood, directionsGood, bookRefusal}
 use Rattle.book.specs.Good.{Good, good-of, good-to, seat-in}
-use Rattle.run.specs.Step.{refused, known, ruled, wanted, clashes, turned, judged, lotOf, answerTo, bookAfter, answerBytes}
+use Rattle.run.specs.Step.{refused, known, ruled, wanted, clashes, turned, judged, lotOf, answerTo, bookAfter, answerBytes, outcomeOf, turnedBook}
 use Rattle.run.specs.Run.{after, answers, filled, mostEvents, runRefusal, runBook, runAnswers}
 use Rattle.run.specs.Kept.{run-good}
 use Rattle.run.specs.Joined.{after-joined, answers-joined, length-answers}
@@ -85,7 +85,7 @@ whole t k m x c s =
     (cond (not k) (refused 12 s) (cond (not m) (refused 13 s) (answerOf x s))))
 
 pub event-refuses : (b : List ℕ) (e : Event) → answerTo b e .refusal ≡ first (eventTests b e)
-unfolding answerTo judged ruled
+unfolding answerTo judged ruled outcomeOf
 event-refuses b e =
     at (ltb (e .seat) (seatCount b)) (known (e .way) (e .message)) (moves (seatOf b (e .seat) .role) (e .way) (e .message))
     (entryOf (seatOf b (e .seat) .role) (seatOf b (e .seat) .table) (e .way) (e .message) (seatOf b (e .seat) .state))
@@ -116,7 +116,7 @@ event-given b e n f = event-refuses b e ∙ given (eventTests b e) n f
 -- a refused event's answer is its number, its seat's state (0 where it names none), 0 and 0
 pub refused-answer : (b : List ℕ) (e : Event) → answerTo b e .refusal ≢ 0
     → answerTo b e ≡ refused (answerTo b e .refusal) (cond (ltb (e .seat) (seatCount b)) (seatOf b (e .seat) .state) 0)
-unfolding answerTo judged ruled
+unfolding answerTo judged ruled outcomeOf
 refused-answer b e =
     at (ltb (e .seat) (seatCount b)) (known (e .way) (e .message)) (moves (seatOf b (e .seat) .role) (e .way) (e .message))
     (entryOf (seatOf b (e .seat) .role) (seatOf b (e .seat) .table) (e .way) (e .message) (seatOf b (e .seat) .state))
@@ -144,7 +144,7 @@ refused-run b ev area r = let t = ne-eqb (runRefusal b ev area) 0 r in (simp t, 
 
 -- a refused event changes no byte of the book
 pub refused-event : (b : List ℕ) (e : Event) → answerTo b e .refusal ≢ 0 → bookAfter b e ≡ b
-unfolding bookAfter
+unfolding bookAfter turnedBook
 refused-event b e r = simp (ne-eqb (answerTo b e .refusal) 0 r)
 
 -- the contract of `run` allows one result, one book and one answer area
@@ -218,7 +218,7 @@ module _ (b : List ℕ) (e : Event) (a : Answered b e) where
 
   -- refusal 0, and the next state, action and reply of the table that the seat names
   pub table-answers : answerTo b e ≡ answerOf (entryOf (x .role) (x .table) (e .way) (e .message) (x .state)) (x .state)
-  unfolding answerTo judged ruled
+  unfolding answerTo judged ruled outcomeOf
   table-answers =
       simp (lt-ltb _ _ (a .seat), a .known, a .moves, a .calm, and-false)
 

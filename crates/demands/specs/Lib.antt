@@ -5,3 +5,4 @@ pub mod Firsts
 pub mod Bytes
 pub mod Demands
 pub mod Cases
+pub mod Journals

@@ -21,7 +21,7 @@ use Rattle.book.specs.Layout.{activityCount, seatCount, activityOf, seatOf, hea
 use Rattle.book.specs.Good.{Good, shaped, seat-in}
 use Rattle.book.specs.Lens.{moved-head, moved-length, moved-activities, moved-seats, moved-seat, moved-other, moved-activity, moved-neighbour}
 use Rattle.book.specs.Same.{same-book}
-use Rattle.run.specs.Step.{refused, wanted, turned, judged, lotOf, answerTo, bookAfter}
+use Rattle.run.specs.Step.{refused, wanted, turned, judged, lotOf, answerTo, bookAfter, turnedBook}
 use Rattle.run.specs.Run.{after, answers}
 use Rattle.run.specs.Kept.{Legal, legal-event, step-good}
 use Rattle.demands.specs.Groups.{groupOf, inGroup, only, onlyTo}
@@ -67,11 +67,11 @@ kept-cond false x y = refl
 -- a book that is left, and one that is moved
 module _ (b : List ℕ) (e : Event) where
   left-book : eqb (answerTo b e .refusal) 0 ≡ false → bookAfter b e ≡ b
-  unfolding bookAfter
+  unfolding bookAfter turnedBook
   left-book t = simp t
 
   moved-book : eqb (answerTo b e .refusal) 0 ≡ true → bookAfter b e ≡ moved b (e .seat) (answerTo b e .state) (turn b e)
-  unfolding bookAfter
+  unfolding bookAfter turnedBook
   moved-book t = simp t
 
 module _ (b : List ℕ) (e : Event) (good : Good b) where

@@ -5,15 +5,13 @@ ghost use lib.ListN.{length};
 ghost use Rattle.journal.specs.Journal.{hasRoom, roomed, refusalOf, linesFrom, lines, reading, areaAfter, Owed};
 use line::Line;
 
-const TEXT_MOST: usize = 65536;
+pub const TEXT_MOST: usize = 65536;
 
-const EVENTS_MOST: usize = 4096;
+pub const EVENTS_MOST: usize = 4096;
 
-const EVENT_SIZE: usize = 4;
+pub const REFUSED_LINE_ROOM: u8 = 25;
 
-const REFUSED_ROOM: u8 = 25;
-
-const REFUSED_TEXT: u8 = 26;
+pub const REFUSED_TEXT_LONG: u8 = 26;
 
 // A good read has refusal 0 and line 0. A refusal has its line's number, counted from 1, and count 0.
 pub struct Reading {
@@ -28,14 +26,14 @@ pub fn read(text: &[u8], area: &mut [u8]) -> Reading
 {
     if TEXT_MOST < text.len() {
         return Reading {
-            refusal: REFUSED_TEXT,
+            refusal: REFUSED_TEXT_LONG,
             line: 0,
             count: 0,
         };
     }
     let mut kept = aside();
     let got = read_lines(text, area.len(), &mut kept);
-    let size = EVENT_SIZE * got.count;
+    let size = records::EVENT_SIZE * got.count;
     bytes::copy(&kept[..size], area);
     got
 }
@@ -49,8 +47,8 @@ fn read_lines(text: &[u8], area: usize, kept: &mut [u8]) -> Reading
     let mut n = 0;
     while at < text.len() {
         let rest = &text[at..];
-        let length = line::length(rest);
-        let said = in_room(line::said(rest, length), has_room(area, n));
+        let size = line::body_size(rest);
+        let said = in_room(line::said(rest, size), has_room(area, n));
         let Line::Good(event) = said else {
             return Reading {
                 refusal: refusal(said),
@@ -59,7 +57,7 @@ fn read_lines(text: &[u8], area: usize, kept: &mut [u8]) -> Reading
             };
         };
         records::put_event(kept, n, event);
-        at += length + 1;
+        at += size + 1;
         n += 1;
     }
     Reading {
@@ -78,7 +76,7 @@ fn in_room(said: Line, room: bool) -> Line
             if room {
                 Line::Good(event)
             } else {
-                Line::Refused(REFUSED_ROOM)
+                Line::Refused(REFUSED_LINE_ROOM)
             }
         }
         Line::Refused(number) => Line::Refused(number),
@@ -90,7 +88,7 @@ fn has_room(area: usize, n: usize) -> bool
     ensures { λ r. ⌜ r ≡ hasRoom area n ⌝ }
 {
     if n < EVENTS_MOST {
-        if EVENT_SIZE * n + EVENT_SIZE <= area {
+        if records::EVENT_SIZE * n + records::EVENT_SIZE <= area {
             return true;
         }
     }

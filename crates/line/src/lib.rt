@@ -1,13 +1,13 @@
 // One line of a journal: where its newline stands, and the event that it says or the number of its refusal.
 ghost use mathlib.Core.Path.{_≡_};
 ghost use Prim.Native.Nat.{_≤_};
-ghost use lib.ListN.{length as lengthOf, take};
+ghost use lib.ListN.{length, take};
 ghost use Rattle.line.specs.Grammar.{indexOf, thirdOf, secondOf, fieldsOf, lineOf, lineMost, newline};
 ghost use Rattle.line.specs.Seats.{seatIn, digitsIn};
 use records::Event;
 
 // A line with its newline.
-const LINE_MOST: usize = 26;
+pub const LINE_MOST: usize = 26;
 
 const SEAT_MOST: usize = 65535;
 
@@ -19,13 +19,13 @@ const ZERO: u8 = 48;
 
 const NINE: u8 = 57;
 
-const REFUSED_LENGTH: u8 = 21;
+pub const REFUSED_LINE_LONG: u8 = 21;
 
-const REFUSED_SEAT: u8 = 22;
+pub const REFUSED_LINE_SEAT: u8 = 22;
 
-const REFUSED_WAY: u8 = 23;
+pub const REFUSED_LINE_WAY: u8 = 23;
 
-const REFUSED_MESSAGE: u8 = 24;
+pub const REFUSED_LINE_NAME: u8 = 24;
 
 pub enum Line {
     Good(Event),
@@ -38,10 +38,10 @@ enum Seat {
     Nothing,
 }
 
-// How many bytes of a line stand before its newline, where that is one of the first 26 of the text from the line on.
-pub fn length(rest: &[u8]) -> usize
+// How many bytes of a line stand before its newline; the smaller of 26 and the text's length where none of its first 26 bytes is one.
+pub fn body_size(rest: &[u8]) -> usize
     ensures place { λ r. ⌜ r ≡ indexOf newline (take lineMost (now (rest .entry))) ⌝ }
-    ensures within { λ r. ⌜ r ≤ lengthOf (now (rest .entry)) ⌝ }
+    ensures within { λ r. ⌜ r ≤ length (now (rest .entry)) ⌝ }
 {
     if rest.len() < LINE_MOST {
         find(rest, NEWLINE)
@@ -50,17 +50,17 @@ pub fn length(rest: &[u8]) -> usize
     }
 }
 
-// What the line says that the text begins with; `length` is the answer of the function above.
-pub fn said(rest: &[u8], length: usize) -> Line
-    requires { ⌜ length ≡ indexOf newline (take lineMost (now rest)) ⌝ }
+// What the line says that the text begins with; `size` is the answer of the function above.
+pub fn said(rest: &[u8], size: usize) -> Line
+    requires { ⌜ size ≡ indexOf newline (take lineMost (now rest)) ⌝ }
     ensures { λ r. ⌜ r ≡ lineOf (now (rest .entry)) ⌝ }
 {
-    if length < LINE_MOST {
-        if length < rest.len() {
-            return fields(&rest[..length]);
+    if size < LINE_MOST {
+        if size < rest.len() {
+            return fields(&rest[..size]);
         }
     }
-    Line::Refused(REFUSED_LENGTH)
+    Line::Refused(REFUSED_LINE_LONG)
 }
 
 // A line without its newline.
@@ -68,7 +68,7 @@ fn fields(body: &[u8]) -> Line
     ensures { λ r. ⌜ r ≡ fieldsOf (now (body .entry)) ⌝ }
 {
     let Seat::At { number, size } = first(body) else {
-        return Line::Refused(REFUSED_SEAT);
+        return Line::Refused(REFUSED_LINE_SEAT);
     };
     second(number, &body[size + 1..])
 }
@@ -81,11 +81,11 @@ fn second(seat: usize, part: &[u8]) -> Line
     if at < part.len() {
         let way = names::way_named(&part[..at]);
         if 1 < way {
-            return Line::Refused(REFUSED_WAY);
+            return Line::Refused(REFUSED_LINE_WAY);
         }
         third(seat, way, &part[at + 1..])
     } else {
-        Line::Refused(REFUSED_WAY)
+        Line::Refused(REFUSED_LINE_WAY)
     }
 }
 
@@ -95,7 +95,7 @@ fn third(seat: usize, way: u8, part: &[u8]) -> Line
 {
     let message = names::message_named(part);
     if message == 0 {
-        Line::Refused(REFUSED_MESSAGE)
+        Line::Refused(REFUSED_LINE_NAME)
     } else {
         Line::Good(Event { seat, way, message })
     }
@@ -148,7 +148,7 @@ fn digits(body: &[u8]) -> Seat
 // The first place of b in s; the length of s where it has none.
 fn find(s: &[u8], b: u8) -> usize
     ensures place { λ r. ⌜ r ≡ indexOf b (now (s .entry)) ⌝ }
-    ensures within { λ r. ⌜ r ≤ lengthOf (now (s .entry)) ⌝ }
+    ensures within { λ r. ⌜ r ≤ length (now (s .entry)) ⌝ }
 {
     let mut i = 0;
     while i < s.len() {

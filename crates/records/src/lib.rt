@@ -5,6 +5,8 @@ ghost use Prim.Native.Nat.{_+_, _*_, _≤_, _<_};
 ghost use lib.ListN.{length};
 ghost use Rattle.records.specs.Records.{at16, placed, eventAt, eventBytes};
 
+pub const EVENT_SIZE: usize = 4;
+
 pub struct Event {
     pub seat: usize,
     pub way: u8,
@@ -38,7 +40,7 @@ pub fn read_event(events: &[u8], n: usize) -> Event
     requires { ⌜ 4 * n + 4 ≤ length (now events) ⌝ }
     ensures { λ r. ⌜ r ≡ eventAt (now (events .entry)) n ⌝ }
 {
-    let at = 4 * n;
+    let at = EVENT_SIZE * n;
     Event {
         seat: u16_at(events, at),
         way: events[at + 2],
@@ -53,5 +55,5 @@ pub fn put_event(area: &mut [u8], n: usize, e: Event)
 {
     let low = (e.seat % 256) as u8;
     let high = (e.seat / 256 % 256) as u8;
-    put_four(area, 4 * n, low, high, e.way, e.message);
+    put_four(area, EVENT_SIZE * n, low, high, e.way, e.message);
 }

@@ -1,5 +1,6 @@
 -- A rule over rows and places is the bits of one number: antt computes all 64 and compares.
 -- Assumes nothing.
+use Rattle.rules.specs.Parts.{bitOf}
 use mathlib.Core.Path.{_≡_}
 use mathlib.Core.Bool.{Bool}
 use Prim.Native.Nat.{ℕ, _<_}
@@ -7,7 +8,6 @@ use native.Mathlib.Omega.{arith}
 use lib.Dec.{T}
 use Rattle.lemmas.specs.Bools.{same, same-is}
 use Rattle.lemmas.specs.Ranges.{each, each-at}
-use Rattle.rules.specs.Rules.{bitOf}
 
 module _ (marks rows : ℕ) (rule : ℕ → ℕ → Bool) where
   abbrev at : ℕ → ℕ → Bool

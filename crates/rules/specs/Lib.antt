@@ -1,5 +1,6 @@
 pub mod Numbers
 pub mod Tables
+pub mod Parts
 pub mod Rules
 pub mod Outcome
 pub mod Laws

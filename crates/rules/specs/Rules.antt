@@ -1,6 +1,6 @@
 -- What a seat answers to a message, for every role, table, way, message and state.
 -- Assumes nothing.
-use Prim.Native.Nat.{ℕ, _+_, _*_, _/_, _%_, _^_}
+use Prim.Native.Nat.{ℕ}
 use mathlib.Core.Bool.{Bool, true, false, not, cond, _&&_, _||_}
 use lib.Dec.{leb, eqb}
 use Rattle.rules.specs.declared.Entry.{Entry}
@@ -59,7 +59,3 @@ legal Ignore = true
 legal (Move next) = true
 legal (Forget next) = true
 legal (Reply m) = true
-
--- bit 16 row + place of a number of marks
-unfoldable pub bitOf : ℕ → ℕ → ℕ → Bool
-bitOf marks row place = eqb (marks / 2 ^ (16 * row + place) % 2) 1

@@ -175,13 +175,3 @@ participantReceives isSplit m s = asReceived s (look participantReceivesLines is
 
 unfoldable pub participantSends : Bool → ℕ → ℕ → Entry
 participantSends isSplit m s = asSent s (look participantSendsLines isSplit m s)
-
--- what the code's small parts say of an ended seat: its last word again, the send that ends it, that send again
-unfoldable pub lateOf : ℕ → ℕ → Bool → ℕ → Entry
-lateOf home word isSplit s = cond isSplit (cond (eqb s home) (Reply word) Ignore) (cond (eqb s 12) (Reply word) Invalid)
-
-unfoldable pub endsOf : ℕ → Bool → Entry
-endsOf home isSplit = cond isSplit (Forget home) (Forget 12)
-
-unfoldable pub againOf : ℕ → Bool → ℕ → Entry
-againOf home isSplit s = cond isSplit (cond (eqb s home) (Move home) Invalid) (cond (eqb s 12) (Move 12) Invalid)

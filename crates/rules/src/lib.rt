@@ -1,12 +1,13 @@
 // The published tables: what a seat does with a message that it received or sends.
-mod message;
-mod state;
+pub mod message;
+pub mod state;
 
 ghost use mathlib.Core.Path.{_≡_};
 ghost use mathlib.Core.Bool.{true, cond};
 ghost use Prim.Native.Nat.{_<_};
-ghost use Rattle.rules.specs.Tables.{coordinatorReceives, coordinatorSends, participantReceives, participantSends, lateOf, endsOf, againOf};
-ghost use Rattle.rules.specs.Rules.{hasState, entryOf, moves, answerOf, bitOf};
+ghost use Rattle.rules.specs.Parts.{lateOf, endsOf, againOf, bitOf};
+ghost use Rattle.rules.specs.Tables.{coordinatorReceives, coordinatorSends, participantReceives, participantSends};
+ghost use Rattle.rules.specs.Rules.{hasState, entryOf, moves, answerOf};
 ghost use Rattle.rules.specs.Outcome.{askedBy, suits};
 
 // What a table says of a state and a message.
@@ -38,13 +39,13 @@ pub const RECEIVED: u8 = 0;
 
 pub const SENT: u8 = 1;
 
-const NONE: u8 = 0;
+pub const ACTION_NONE: u8 = 0;
 
-const IGNORE: u8 = 1;
+pub const ACTION_IGNORE: u8 = 1;
 
-const REPLY: u8 = 2;
+pub const ACTION_REPLY: u8 = 2;
 
-const FORGET: u8 = 3;
+pub const ACTION_FORGET: u8 = 3;
 
 pub const DIRECTION_NONE: u8 = 0;
 
@@ -430,31 +431,31 @@ pub fn answer_of(e: Entry, s: u8) -> Answer
         Entry::Invalid => Answer {
             refusal: INVALID_STATE,
             state: s,
-            action: NONE,
+            action: ACTION_NONE,
             reply: 0,
         },
         Entry::Ignore => Answer {
             refusal: GOOD,
             state: s,
-            action: IGNORE,
+            action: ACTION_IGNORE,
             reply: 0,
         },
         Entry::Move(next) => Answer {
             refusal: GOOD,
             state: next,
-            action: NONE,
+            action: ACTION_NONE,
             reply: 0,
         },
         Entry::Forget(next) => Answer {
             refusal: GOOD,
             state: next,
-            action: FORGET,
+            action: ACTION_FORGET,
             reply: 0,
         },
         Entry::Reply(m) => Answer {
             refusal: GOOD,
             state: s,
-            action: REPLY,
+            action: ACTION_REPLY,
             reply: m,
         },
     }

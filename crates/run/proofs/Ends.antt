@@ -18,7 +18,7 @@ use Rattle.run.specs.Step.{refused, ruled, asked, wanted, clashes, turne
 use Rattle.run.specs.Kept.{ruled-stays}
 
 pub end-none : (b : List ℕ) (e : Event) → seatCount b ≤ e .seat → (refused 11 0 ≡ answerTo b e) × (b ≡ bookAfter b e)
-unfolding answerTo bookAfter
+unfolding answerTo bookAfter turnedBook
 end-none b e l = (simp (le-ltb _ _ l), simp (le-ltb _ _ l))
 
 module _ (b : List ℕ) (e : Event) (sh : Shaped b) (l : e .seat < seatCount b) (kl : seatOf b (e .seat) .activity < activityCount b) where
@@ -40,11 +40,11 @@ module _ (b : List ℕ) (e : Event) (sh : Shaped b) (l : e .seat < seatCount b) 
 
   -- nothing is wanted: the tables' answer, and its state stored
   calm : w ≡ 0 → q ≡ answerTo b e
-  unfolding judged clashes
+  unfolding judged clashes outcomeOf
   calm z = sym (here ∙ simp (eq-eqb w 0 z, and-false))
 
   pub end-kept : w ≡ 0 → {b′ : List ℕ} → b′ ≡ putState b (e .seat) (q .state) → (q ≡ answerTo b e) × (b′ ≡ bookAfter b e)
-  unfolding bookAfter turned
+  unfolding bookAfter turned turnedBook
   end-kept z is-b = (calm z, is-b ∙ at (eqb (q .refusal) 0) refl) where
     at : (t : Bool) → eqb (q .refusal) 0 ≡ t → putState b (e .seat) (q .state) ≡ bookAfter b e
     at true f =

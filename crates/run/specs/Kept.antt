@@ -26,7 +26,7 @@ use Rattle.book.specs.declared.Seat.{Seat}
 use Rattle.book.specs.Layout.{activityCount, seatCount, activityOf, seatOf, moved}
 use Rattle.book.specs.Book.{atomic, mixed, activityGood, activityGoodAt, activitiesGood, agrees, agreesAt, directionsGood}
 use Rattle.book.specs.Good.{Good, seat-in, seat-has, moved-good}
-use Rattle.run.specs.Step.{refused, known, ruled, asked, wanted, clashes, turned, judged, lotOf, answerTo, bookAfter}
+use Rattle.run.specs.Step.{refused, known, ruled, asked, wanted, clashes, turned, judged, lotOf, answerTo, bookAfter, outcomeOf, turnedBook}
 use Rattle.run.specs.Run.{after}
 
 -- an answer of the tables that is refused leaves the state
@@ -177,7 +177,7 @@ pub record Legal (b : List ℕ) (e : Event) : Type 0 where
   pub state : answerTo b e .state ≡ ruled (seatOf b (e .seat)) (e .way) (e .message) .state
 
 pub legal-event : (b : List ℕ) (e : Event) → answerTo b e .refusal ≡ 0 → Legal b e
-unfolding answerTo judged
+unfolding answerTo judged outcomeOf
 legal-event b e h = at (ltb (e .seat) (seatCount b)) refl (eqb (ruled x (e .way) (e .message) .refusal) 0) refl (clashes (y .direction) w) refl where
   x : Seat
   x = seatOf b (e .seat)
@@ -213,7 +213,7 @@ unfolding directionsGood agreesAt
 good-direction b g n l = every-at (agreesAt b) (seatCount b) n (g .directions) l
 
 pub step-good : (b : List ℕ) (e : Event) → Good b → Good (bookAfter b e)
-unfolding bookAfter
+unfolding bookAfter turnedBook
 step-good b e g = at (eqb (answerTo b e .refusal) 0) refl where
   written : Legal b e → Good (moved b (e .seat) (ruled (seatOf b (e .seat)) (e .way) (e .message) .state)
       (turned (lotOf b (e .seat) .direction) (wanted (lotOf b (e .seat) .kind) (seatOf b (e .seat) .role) (e .way) (e .message))))

@@ -46,10 +46,11 @@ unfoldable pub turned : ℕ → ℕ → ℕ
 turned direction want = cond (eqb want 0) direction want
 
 -- 15: outcome against the direction
+unfoldable pub outcomeOf : ℕ → ℕ → ℕ → Answer → Answer
+outcomeOf direction want state q = cond (eqb (q .refusal) 0 && clashes direction want) (refused 15 state) q
+
 unfoldable pub judged : Activity → Seat → ℕ → ℕ → Answer
-judged y x way m =
-    cond (eqb (ruled x way m .refusal) 0 && clashes (y .direction) (wanted (y .kind) (x .role) way m)) (refused 15 (x .state))
-    (ruled x way m)
+judged y x way m = outcomeOf (y .direction) (wanted (y .kind) (x .role) way m) (x .state) (ruled x way m)
 
 -- the activity of seat n
 abbrev pub lotOf : List ℕ → ℕ → Activity
@@ -61,13 +62,15 @@ answerTo b e =
     cond (not (ltb (e .seat) (seatCount b))) (refused 11 0)
     (judged (lotOf b (e .seat)) (seatOf b (e .seat)) (e .way) (e .message))
 
--- a refused event leaves the book; another leaves the seat in the answer's state and turns its activity
+-- a refused event leaves the book; another leaves the seat in the answer's state and its activity with a direction
+unfoldable pub turnedBook : List ℕ → ℕ → ℕ → Answer → List ℕ
+turnedBook b n direction a = cond (eqb (a .refusal) 0) (moved b n (a .state) direction) b
+
 unfoldable pub bookAfter : List ℕ → Event → List ℕ
 bookAfter b e =
-    cond (eqb (answerTo b e .refusal) 0)
-    (moved b (e .seat) (answerTo b e .state)
-    (turned (lotOf b (e .seat) .direction) (wanted (lotOf b (e .seat) .kind) (seatOf b (e .seat) .role) (e .way) (e .message))))
-    b
+    turnedBook b (e .seat)
+    (turned (lotOf b (e .seat) .direction) (wanted (lotOf b (e .seat) .kind) (seatOf b (e .seat) .role) (e .way) (e .message)))
+    (answerTo b e)
 
 -- an answer is four bytes: refusal, state after, action, reply
 abbrev pub answerBytes : Answer → List ℕ
@@ -75,10 +78,3 @@ answerBytes a = a .refusal ∷ a .state ∷ a .action ∷ a .reply ∷ []
 
 unfoldable pub answerAt : List ℕ → ℕ → Answer
 answerAt l n = answer (getD l (4 * n) 0) (getD l (4 * n + 1) 0) (getD l (4 * n + 2) 0) (getD l (4 * n + 3) 0)
-
--- what the code's end for a wanted direction answers and leaves
-unfoldable pub outcomeOf : ℕ → ℕ → ℕ → Answer → Answer
-outcomeOf direction want state q = cond (eqb (q .refusal) 0 && clashes direction want) (refused 15 state) q
-
-unfoldable pub turnedBook : List ℕ → ℕ → ℕ → Answer → List ℕ
-turnedBook b n want r = cond (eqb (r .refusal) 0) (moved b n (r .state) want) b

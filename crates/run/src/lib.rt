@@ -13,17 +13,19 @@ use book::Seat;
 use records::Event;
 use rules::Answer;
 
-const MOST_EVENTS: usize = 4096;
+pub const EVENTS_MOST: usize = 4096;
 
-pub const REFUSED_EVENTS: u8 = 6;
+pub const ANSWER_SIZE: usize = 4;
 
-pub const REFUSED_ANSWERS: u8 = 7;
+pub const REFUSED_EVENT_LIST: u8 = 6;
+
+pub const REFUSED_ANSWER_AREA: u8 = 7;
 
 pub const REFUSED_NO_SEAT: u8 = 11;
 
-pub const REFUSED_UNKNOWN: u8 = 12;
+pub const REFUSED_EVENT: u8 = 12;
 
-pub const REFUSED_NOT_MOVED: u8 = 13;
+pub const REFUSED_WAY: u8 = 13;
 
 pub const REFUSED_OUTCOME: u8 = 15;
 
@@ -57,10 +59,10 @@ fn rule(x: Seat, way: u8, m: u8) -> Answer
     ensures { λ r. ⌜ r ≡ ruled x way m ⌝ }
 {
     if !is_known(way, m) {
-        return refuse(REFUSED_UNKNOWN, x.state);
+        return refuse(REFUSED_EVENT, x.state);
     }
     if !rules::moves_message(x.role, way, m) {
-        return refuse(REFUSED_NOT_MOVED, x.state);
+        return refuse(REFUSED_WAY, x.state);
     }
     let entry = rules::entry_in(x.role, x.table, way, m, x.state);
     rules::answer_of(entry, x.state)
@@ -147,7 +149,7 @@ pub fn read_answer(answers: &[u8], n: usize) -> Answer
     requires { ⌜ 4 * n + 4 ≤ length (now answers) ⌝ }
     ensures { λ r. ⌜ r ≡ answerAt (now (answers .entry)) n ⌝ }
 {
-    let at = 4 * n;
+    let at = ANSWER_SIZE * n;
     Answer {
         refusal: answers[at],
         state: answers[at + 1],
@@ -160,7 +162,7 @@ fn put_answer(area: &mut [u8], n: usize, a: Answer)
     requires { ⌜ 4 * n + 4 ≤ length (now area) ⌝ }
     ensures { λ _. ⌜ now (area .exit) ≡ placed (now (area .entry)) (4 * n) (answerBytes a) ⌝ }
 {
-    records::put_four(area, 4 * n, a.refusal, a.state, a.action, a.reply);
+    records::put_four(area, ANSWER_SIZE * n, a.refusal, a.state, a.action, a.reply);
 }
 
 // The first `count` events of a list, at a good book.
@@ -188,15 +190,15 @@ pub fn run(book: &mut [u8], events: &[u8], area: &mut [u8]) -> u8
     if bad != rules::GOOD {
         return bad;
     }
-    if events.len() % 4 != 0 {
-        return REFUSED_EVENTS;
+    if events.len() % records::EVENT_SIZE != 0 {
+        return REFUSED_EVENT_LIST;
     }
-    if MOST_EVENTS < events.len() / 4 {
-        return REFUSED_EVENTS;
+    if EVENTS_MOST < events.len() / records::EVENT_SIZE {
+        return REFUSED_EVENT_LIST;
     }
     if area.len() < events.len() {
-        return REFUSED_ANSWERS;
+        return REFUSED_ANSWER_AREA;
     }
-    work(book, events, area, events.len() / 4);
+    work(book, events, area, events.len() / records::EVENT_SIZE);
     rules::GOOD
 }

@@ -37,11 +37,11 @@ module _ (c : tie.After-in-room Inv-loop μ-loop) where
       c .in-room .ensures
       ∙ rw (c .before .has-room .ensures, c .before .before .said .ensures, tail (l .at) (now (a .text)))
 
-  line-length : c .before .before .before .length .result ≡ indexOf newline (take lineMost (drop (c .before .before .before .before .before .before .loop .at) (now (c .before .before .before .before .before .before .before .before .before .args .text))))
+  line-length : c .before .before .before .body-size .result ≡ indexOf newline (take lineMost (drop (c .before .before .before .before .before .before .loop .at) (now (c .before .before .before .before .before .before .before .before .before .args .text))))
   line-length =
       let a = c .before .before .before .before .before .before .before .before .before .args in
       let l = c .before .before .before .before .before .before .loop in
-      c .before .before .before .length .ensures .0 ∙ rw (tail (l .at) (now (a .text)))
+      c .before .before .before .body-size .ensures .0 ∙ rw (tail (l .at) (now (a .text)))
 
   module _ (e : Event) (good : c .in-room .result ≡ Good e) where
     line-good : roomed (hasRoom (c .before .before .before .before .before .before .before .before .before .args .area) (c .before .before .before .before .before .before .loop .n)) (lineOf (drop (c .before .before .before .before .before .before .loop .at) (now (c .before .before .before .before .before .before .before .before .before .args .text)))) ≡ Good e
@@ -53,11 +53,11 @@ module _ (c : tie.After-in-room Inv-loop μ-loop) where
         let l = c .before .before .before .before .before .before .loop in
         room-for (now (a .text)) (a .area) (l .kept) (l .kept) (l .at) (l .n) (c .before .before .before .before .before .loop-test .taken) e line-good
 
-    line-within : c .before .before .before .before .before .before .loop .at + (c .before .before .before .length .result + 1) ≤ length (now (c .before .before .before .before .before .before .before .before .before .args .text))
+    line-within : c .before .before .before .before .before .before .loop .at + (c .before .before .before .body-size .result + 1) ≤ length (now (c .before .before .before .before .before .before .before .before .before .args .text))
     line-within =
         let a = c .before .before .before .before .before .before .before .before .before .args in
         let l = c .before .before .before .before .before .before .loop in
-        length-of (now (a .text)) (a .area) (l .kept) (l .kept) (l .at) (l .n) (c .before .before .before .before .before .loop-test .taken) e line-good (c .before .before .before .length .result) line-length .1
+        length-of (now (a .text)) (a .area) (l .kept) (l .kept) (l .at) (l .n) (c .before .before .before .before .before .loop-test .taken) e line-good (c .before .before .before .body-size .result) line-length .1
 
 returns : tie.Need-returns Inv-loop μ-loop
 returns c =
@@ -94,9 +94,9 @@ loop-again c =
     let within = line-within i _ good in
     let more =
     kept-good (now (a .text)) (a .area) (now (a .kept)) (l .kept) (l .at) (l .n) (c .before .before .before .before .before .before .before .before .before .before .before .before .loop-test .taken) _ (line-good i _ good)
-    (l .inv .6) (c .before .before .before .before .before .before .before .before .before .before .length .result) (line-length i) _ (c .before .before .put-event .ensures)
+    (l .inv .6) (c .before .before .before .before .before .before .before .before .before .before .body-size .result) (line-length i) _ (c .before .before .put-event .ensures)
     in
-    let same = kept-length (now (a .text)) (a .area) (now (a .kept)) _ (l .at + (c .before .before .before .before .before .before .before .before .before .before .length .result + 1)) (l .n + 1) more (omega arith) in
+    let same = kept-length (now (a .text)) (a .area) (now (a .kept)) _ (l .at + (c .before .before .before .before .before .before .before .before .before .before .body-size .result + 1)) (l .n + 1) more (omega arith) in
     (omega arith, omega arith, omega arith, omega arith, omega arith, same, more)
 
 returns-2 : tie.Need-returns-2 Inv-loop μ-loop
@@ -117,7 +117,7 @@ read-lines-spec =
     (λ c. search needs)
     (λ c. search needs)
     (λ c κs. search needs)
-    (λ c κs. c .length .ensures .0)
+    (λ c κs. c .body-size .ensures .0)
     (λ c κs. search needs)
     (λ c κs. search needs)
     (λ c. search needs)

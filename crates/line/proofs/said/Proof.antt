@@ -18,17 +18,17 @@ returns : tie.Need-returns
 returns c =
     let start = c .before .before .before .before .before in
     c .fields .ensures
-    ∙ sym (line-ends (now (start .args .rest)) (start .args .length) (start .pre) (omega arith) (omega arith))
+    ∙ sym (line-ends (now (start .args .rest)) (start .args .size) (start .pre) (omega arith) (omega arith))
 
 returns-2 : tie.Need-returns-2
 returns-2 c =
     let start = c .before .before .before in
-    sym (line-long (now (start .args .rest)) (start .args .length) (start .pre) (inr (omega arith)))
+    sym (line-long (now (start .args .rest)) (start .args .size) (start .pre) (inr (omega arith)))
 
 returns-3 : tie.Need-returns-3
 returns-3 c =
     let start = c .before .before in
-    sym (line-long (now (start .args .rest)) (start .args .length) (start .pre) (inl (omega arith)))
+    sym (line-long (now (start .args .rest)) (start .args .size) (start .pre) (inl (omega arith)))
 
 pub said-spec : {M : Type 1} → statement M
 said-spec =

@@ -1,5 +1,5 @@
+use Rattle.rules.specs.Parts.{againOf}
 use borrow.Author.Tests.{eq-eqb, ne-eqb}
-use Rattle.rules.specs.Tables.{againOf}
 use Rattle.rules.proofs.again.Statement.{statement}
 use Rattle.rules.proofs.again.Tie as tie
 

@@ -1,8 +1,8 @@
 -- A shift is a division by a power of two.
 -- Assumes nothing.
+use Rattle.rules.specs.Parts.{bitOf}
 use borrow.Author.Needs.{needs}
 use mathlib.Core.Path.{refl}
-use Rattle.rules.specs.Rules.{bitOf}
 use Rattle.rules.proofs.bit.Statement.{statement}
 use Rattle.rules.proofs.bit.Tie as tie
 

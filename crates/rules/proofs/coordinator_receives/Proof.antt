@@ -1,10 +1,11 @@
+use Rattle.rules.specs.Parts.{lateOf, endsOf, againOf}
 use mathlib.Core.Path.{_≡_, refl}
 use mathlib.Core.Bool.{Bool}
 use mathlib.Core.List.{[], _∷_}
 use Prim.Native.Nat.{ℕ}
 use borrow.Author.Needs.{needs}
 use native.Mathlib.Omega.{arith}
-use Rattle.rules.specs.Tables.{coordinatorReceives, coordinatorReceivesLines, look, asReceived, lateOf, endsOf, againOf}
+use Rattle.rules.specs.Tables.{coordinatorReceives, coordinatorReceivesLines, look, asReceived}
 use Rattle.rules.proofs.Law.{Table, arm, armOf, span, spanOf, rest, either, is-split, is-plain}
 use Rattle.rules.proofs.coordinator_receives.Statement.{statement}
 use Rattle.rules.proofs.coordinator_receives.Tie as tie

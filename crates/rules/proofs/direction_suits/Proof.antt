@@ -1,12 +1,12 @@
 -- The bit is the rule (`bit-is`), as a number.
 -- Assumes nothing.
+use Rattle.rules.specs.Parts.{bitOf}
 use borrow.Author.Needs.{needs}
 use native.Mathlib.Omega.{arith}
 use mathlib.Core.Path.{_≡_, refl, _∙_, ap}
 use mathlib.Core.Bool.{Bool, true, false, cond}
 use Prim.Native.Nat.{ℕ}
 use mir.Val.{boolByte}
-use Rattle.rules.specs.Rules.{bitOf}
 use Rattle.rules.specs.Outcome.{neededBy, suits}
 use Rattle.rules.proofs.Bits.{bit-is}
 use Rattle.rules.proofs.direction_suits.Statement.{statement}

@@ -1,4 +1,4 @@
-use Rattle.rules.specs.Tables.{endsOf}
+use Rattle.rules.specs.Parts.{endsOf}
 use Rattle.rules.proofs.ends.Statement.{statement}
 use Rattle.rules.proofs.ends.Tie as tie
 

@@ -1,5 +1,5 @@
+use Rattle.rules.specs.Parts.{lateOf}
 use borrow.Author.Tests.{eq-eqb, ne-eqb}
-use Rattle.rules.specs.Tables.{lateOf}
 use Rattle.rules.proofs.late.Statement.{statement}
 use Rattle.rules.proofs.late.Tie as tie
 

@@ -1,11 +1,12 @@
 -- Out of range nothing is moved; in range the bit is the rule (`bit-is`).
 -- Assumes nothing.
+use Rattle.rules.specs.Parts.{bitOf}
 use borrow.Author.Needs.{needs}
 use native.Mathlib.Omega.{arith}
 use mathlib.Core.Path.{_≡_, sym, _∙_, ap₂}
 use Prim.Native.Nat.{ℕ, _+_, _*_, _-_, _/_, _%_}
 use Rattle.lemmas.specs.Bools.{never-true}
-use Rattle.rules.specs.Rules.{moves, sends, receives, bitOf}
+use Rattle.rules.specs.Rules.{moves, sends, receives}
 use Rattle.rules.specs.Laws.{moves-in}
 use Rattle.rules.proofs.Bits.{bit-is}
 use Rattle.rules.proofs.moves_message.Statement.{statement}

@@ -1,4 +1,4 @@
--- `line::length` meets its contract: a shorter text is its own first 26 bytes.
+-- `line::body_size` meets its contract: a shorter text is its own first 26 bytes.
 -- Assumes nothing.
 use Prim.Native.Nat.{_≤_}
 use native.Mathlib.Omega.{arith}
@@ -8,8 +8,8 @@ use lib.Seq.{take-all, length-take-le}
 use denote.Ref.{now}
 use borrow.Author.Needs.{needs}
 use Rattle.line.specs.Grammar.{indexOf, newline}
-use Rattle.line.proofs.length.Statement.{statement}
-use Rattle.line.proofs.length.Tie as tie
+use Rattle.line.proofs.body_size.Statement.{statement}
+use Rattle.line.proofs.body_size.Tie as tie
 
 slice-aggregate-find : tie.Need-slice-aggregate-find
 slice-aggregate-find c = sym (length-take-le 26 (now (c .before .before .before .args .rest)) (c .before .if1 .left))
@@ -23,8 +23,8 @@ returns c =
 returns-2 : tie.Need-returns-2
 returns-2 c = (c .find2 .ensures .0, omega (arith, length-take-le 26 (now (c .before .before .before .before .args .rest)) (c .before .before .if1 .left)))
 
-pub length-spec : {M : Type 1} → statement M
-length-spec =
+pub body-size-spec : {M : Type 1} → statement M
+body-size-spec =
     tie.close
     (tie.spec
     (λ c κs. search needs)

@@ -1,0 +1,4 @@
+pub mod Cuts
+pub mod Numbers
+pub mod Spelled
+pub mod Texts
