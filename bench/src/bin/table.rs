@@ -73,7 +73,7 @@ fn print_head(title: &str) {
     let times = columns(titles.iter());
     let ratios = columns(titles[1..].iter());
     let middle = times.len();
-    println!("{:50} {:middle$}    {} to", "", "", titles[0]);
+    println!("{:50} {:middle$}    {} divided by", "", "", titles[0]);
     println!("{title:50} {times}    {ratios}");
 }
 

@@ -30,6 +30,7 @@ use Rattle.run.specs.Joined.{after-joined, answers-joined, length-answers}
 use Rattle.demands.specs.Firsts.{Test, test, first, First, given, only-then}
 use Rattle.demands.specs.Groups.{inGroup, only, onlyTo, firstAnswers}
 use Rattle.demands.specs.Neighbours.{after-head, after-length, after-seat, after-activity, same-answers, same-books}
+use Rattle.demands.specs.OneOutcome.{want, one-outcome}
 use Rattle.demands.specs.Bytes.{answers-back, events-joined}
 
 -- Demand 1. Each refusal of a run is given exactly where its test applies and no earlier one does (`given`, `only-then`) ..
@@ -249,6 +250,15 @@ module _ (b : List ℕ) (e : Event) (a : Answered b e) where
 
     pub activities-stay : (k : ℕ) → k < activityCount b → k ≢ x .activity → activityOf (bookAfter b e) k ≡ activityOf b k
     activities-stay k l ne = after-activity b e (good-of b good) k l ∙ simp (ne-eqb k (x .activity) ne)
+
+-- one outcome: once an atomic activity's coordinator legally sent Close (Compensate), whatever comes between, no legal event of that
+-- activity sends the other
+pub one-direction : (b : List ℕ) → bookRefusal b ≡ 0 → (e : Event) (es : List Event) (f : Event)
+    → answerTo b e .refusal ≡ 0 → want b e ≢ 0
+    → answerTo (after (bookAfter b e) es) f .refusal ≡ 0 → want (after (bookAfter b e) es) f ≢ 0
+    → seatOf (after (bookAfter b e) es) (f .seat) .activity ≡ seatOf b (e .seat) .activity
+    → want (after (bookAfter b e) es) f ≡ want b e
+one-direction b good = one-outcome b (good-of b good)
 
 -- no event changes the header or the length
 pub header-stays : (b : List ℕ) (e : Event) → bookRefusal b ≡ 0 → (headOf (bookAfter b e) ≡ headOf b) × (length (bookAfter b e) ≡ length b)

@@ -6,3 +6,5 @@ pub mod Bytes
 pub mod Demands
 pub mod Cases
 pub mod Journals
+pub mod OneOutcome
+pub mod Single

@@ -47,7 +47,7 @@ pub itself : (o : List ℕ) → Good o → Like o o
 itself o g = record { good = g; head = refl; size = refl; acts = refl; seats = refl; lots = λ n l. refl }
 
 -- the direction that a legal event gives its activity
-abbrev turn : List ℕ → Event → ℕ
+abbrev pub turn : List ℕ → Event → ℕ
 turn b e = turned (lotOf b (e .seat) .direction) (wanted (lotOf b (e .seat) .kind) (seatOf b (e .seat) .role) (e .way) (e .message))
 
 -- what an event makes of each seat and of each activity: a change where it stands and is not refused, and else none
@@ -55,7 +55,7 @@ abbrev seatAfter : List ℕ → Event → ℕ → Seat
 seatAfter b e n =
     cond (eqb n (e .seat)) (cond (eqb (answerTo b e .refusal) 0) (withState (seatOf b n) (answerTo b e .state)) (seatOf b n)) (seatOf b n)
 
-abbrev activityAfter : List ℕ → Event → ℕ → Activity
+abbrev pub activityAfter : List ℕ → Event → ℕ → Activity
 activityAfter b e k =
     cond (eqb k (seatOf b (e .seat) .activity)) (cond (eqb (answerTo b e .refusal) 0) (withDirection (activityOf b k) (turn b e)) (activityOf b k))
     (activityOf b k)
