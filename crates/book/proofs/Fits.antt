@@ -3,22 +3,22 @@
 -- the seat; and a test of both rules passes at every seat exactly where each rule's does.
 -- Assumes nothing.
 use mathlib.Core.Path.{_≡_, refl, sym, ap, _∙_}
-use mathlib.Core.Bool.{Bool, true, false, cond, not, _&&_, _||_, false≢true, and-false}
+use mathlib.Core.Bool.{Bool, true, false, cond, not, false≢true, and-false}
 use mathlib.Core.Logic.{⊎-elim}
 use mathlib.Core.List.{List}
 use Prim.Native.Nat.{ℕ, _+_, _-_, _≤_, _<_}
 use native.Mathlib.Omega.{arith}
-use lib.Dec.{leb, eqb}
+use lib.Dec.{eqb}
 use borrow.Author.Tests.{eq-eqb, ne-eqb, leb-true, eqb-true}
 use Rattle.lemmas.specs.Bools.{both, both-of, cases}
 use Rattle.lemmas.specs.Orders.{same-or}
-use Rattle.lemmas.specs.Walks.{every, every-at, every-all}
+use Rattle.lemmas.specs.Walks.{every-at, every-all}
 use Rattle.rules.specs.Numbers.{coordinator}
 use Rattle.rules.specs.Outcome.{suits}
 use Rattle.book.specs.declared.Seat.{Seat}
 use Rattle.book.specs.declared.Activity.{Activity}
 use Rattle.book.specs.Layout.{activityCount, seatCount, activityOf, seatOf}
-use Rattle.book.specs.Book.{atomic, mixed, activityGood, activityGoodAt, activitiesGood, seatGood, seatGoodAt, seatsGood, agrees, agreesAt, directionsGood, fitsAt, seatsFit}
+use Rattle.book.specs.Book.{atomic, mixed, activityGood, activityGoodAt, activitiesGood, seatGoodAt, seatsGood, agrees, agreesAt, directionsGood, fitsAt, seatsFit}
 
 -- a good activity's direction is at most 2
 low-direction : (kind direction : ℕ) → activityGood kind direction ≡ true → direction ≤ 2

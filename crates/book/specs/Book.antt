@@ -1,6 +1,6 @@
 -- Which books are good: refusals 1 to 5 of the outline, each over the whole book before the next.
 -- Assumes nothing.
-use mathlib.Core.Bool.{Bool, true, false, cond, not, _&&_, _||_}
+use mathlib.Core.Bool.{Bool, true, cond, not, _&&_}
 use Prim.Native.Nat.{ℕ, _+_, _*_}
 use mathlib.Core.List.{List}
 use lib.ListN.{length}
@@ -9,7 +9,6 @@ use Rattle.lemmas.specs.Walks.{every}
 use Rattle.rules.specs.Numbers.{coordinator}
 use Rattle.rules.specs.Rules.{hasState}
 use Rattle.rules.specs.Outcome.{suits}
-use Rattle.book.specs.declared.Activity.{Activity}
 use Rattle.book.specs.declared.Seat.{Seat}
 use Rattle.book.specs.Layout.{activityCount, seatCount, activitiesFrom, seatsFrom, headSize, activitySize, seatSize, mostActivities, mostSeats, activityOf, seatOf}
 

@@ -3,17 +3,17 @@
 -- activity that were written by what is asked below, and elsewhere because nothing changed there.
 -- Assumes nothing.
 use mathlib.Core.Path.{_≡_, refl, sym, ap, _∙_}
-use mathlib.Core.Bool.{Bool, true, false, cond, not, _&&_}
+use mathlib.Core.Bool.{Bool, true, false, cond, not}
 use mathlib.Core.Logic.{⊎-elim}
 use mathlib.Core.List.{List}
-use Prim.Native.Nat.{ℕ, _+_, _*_, _≤_, _<_}
+use Prim.Native.Nat.{ℕ, _≤_, _<_}
 use native.Mathlib.Omega.{arith}
 use lib.ListN.{length}
 use lib.Dec.{ltb}
 use borrow.Author.Tests.{le-ltb, ltb-true, ltb-false, eqb-true, leb-true, le-leb, eq-eqb}
 use Rattle.lemmas.specs.Bools.{both, both-of}
 use Rattle.lemmas.specs.Orders.{same-or}
-use Rattle.lemmas.specs.Walks.{every, every-at, every-all}
+use Rattle.lemmas.specs.Walks.{every-at, every-all}
 use Rattle.rules.specs.Rules.{hasState}
 use Rattle.book.specs.declared.Activity.{Activity}
 use Rattle.book.specs.declared.Seat.{Seat}

@@ -1,15 +1,14 @@
 -- What is read of a book after a write.
 -- The argument: a write changes one byte, and a record's bytes are its own (byte positions are compared by omega).
 -- Assumes nothing.
-use mathlib.Core.Path.{_≡_, refl, sym, ap, _∙_, subst}
+use mathlib.Core.Path.{_≡_, refl, sym, ap, _∙_}
 use mathlib.Core.Logic.{_≢_}
 use mathlib.Core.List.{List, [], _∷_}
 use Prim.Native.Nat.{ℕ, zero, suc, _+_, _*_, _≤_, _<_}
 use native.Mathlib.Omega.{arith}
 use lib.ListN.{length, getD, set, take, length-set}
-use lib.Seq.{getD-set-same, getD-set-other, set-getD, ext-getD, getD-take, length-take-le}
+use lib.Seq.{getD-set-same, getD-set-other, set-getD}
 use Rattle.book.specs.declared.Activity.{Activity}
-use Rattle.book.specs.declared.Seat.{Seat}
 use Rattle.records.specs.Records.{at16}
 use Rattle.book.specs.Layout.{activityCount, seatCount, headSize, activitySize, seatSize, activityAt, seatAt, directionAt, stateAt, activityOf, seatOf, headOf, putState, putDirection, withState, withDirection, moved, Shaped}
 

@@ -4,12 +4,11 @@
 use mathlib.Core.Path.{_≡_, refl, sym, ap, _∙_}
 use mathlib.Core.Logic.{⊎-elim}
 use mathlib.Core.List.{List}
-use Prim.Native.Nat.{ℕ, _+_, _*_, _-_, _/_, _%_, _≤_, _<_}
+use Prim.Native.Nat.{ℕ, _+_, _*_, _-_, _/_, _≤_, _<_}
 use native.Mathlib.Omega.{arith}
 use lib.ListN.{length, getD}
 use Rattle.lemmas.specs.Orders.{same-or, below-or}
 use lib.Seq.{ext-getD, getD-take}
-use Rattle.records.specs.Records.{at16}
 use Rattle.book.specs.declared.Activity.{Activity}
 use Rattle.book.specs.declared.Seat.{Seat}
 use Rattle.book.specs.Layout.{activityCount, seatCount, headSize, activitySize, seatSize, activityAt, seatAt, directionAt, stateAt, activityOf, seatOf, headOf, Shaped}

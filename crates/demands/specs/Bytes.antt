@@ -5,9 +5,8 @@ use mathlib.Core.List.{List, [], _∷_, _++_, append-assoc, append-nil}
 use Prim.Native.Nat.{ℕ, zero, suc, _+_, _*_, _/_, _%_, _≤_, _<_}
 use native.Mathlib.Omega.{arith}
 use native.Mathlib.Nat.{add-zero, add-suc}
-use lib.ListN.{length, getD, drop, length-append, List·getD-append}
+use lib.ListN.{length, getD, length-append, List·getD-append}
 use lib.Seq.{getD-append-add}
-use Rattle.records.specs.declared.Event.{Event}
 use Rattle.records.specs.Records.{at16, flat, eventAt, firstEvents, eventsOf}
 use Rattle.rules.specs.declared.Answer.{Answer}
 use Rattle.run.specs.Step.{answerBytes}

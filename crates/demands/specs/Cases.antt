@@ -10,7 +10,7 @@ use Rattle.rules.specs.Numbers.{received, sent, close, compensate, fail, closed
 use Rattle.rules.specs.Tables.{coordinatorReceives, coordinatorSends, participantReceives, participantSends}
 use Rattle.rules.specs.Rules.{hasState, lastState, sends, receives, moves, entryOf, answer}
 use Rattle.rules.specs.Outcome.{askedBy}
-use Rattle.rules.specs.Cases.{Case, marked, answered}
+use Rattle.rules.specs.Cases.{marked, answered}
 use Rattle.book.specs.Layout.{activityOf, seatOf, putState, putDirection}
 use Rattle.run.specs.Step.{known, ruled, asked, wanted, clashes, turned, judged, answerTo, bookAfter, outcomeOf, turnedBook}
 use Rattle.run.specs.Run.{after, answers}

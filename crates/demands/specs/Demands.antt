@@ -8,11 +8,11 @@ use mathlib.Core.List.{List, [], _∷_, _++_}
 use Prim.Native.Nat.{ℕ, _+_, _*_, _/_, _%_, _≤_, _<_}
 use native.Mathlib.Omega.{arith}
 use lib.ListN.{length, drop, length-append}
-use lib.Dec.{ltb, leb, eqb}
-use borrow.Author.Tests.{eq-eqb, ne-eqb, eqb-true, eqb-false, le-ltb, lt-ltb, ltb-true, ltb-false}
+use lib.Dec.{ltb, eqb}
+use borrow.Author.Tests.{eq-eqb, ne-eqb, eqb-true, eqb-false, le-ltb, lt-ltb, ltb-false}
 use Rattle.records.specs.declared.Event.{Event}
-use Rattle.records.specs.Records.{flat, firstEvents, eventsOf}
-use Rattle.records.specs.Laws.{flat-append, length-firstEvents}
+use Rattle.records.specs.Records.{flat, eventsOf}
+use Rattle.records.specs.Laws.{length-firstEvents}
 use Rattle.rules.specs.declared.Answer.{Answer}
 use Rattle.rules.specs.declared.Entry.{Entry}
 use Rattle.rules.specs.declared.Entry.the-variants.{Invalid, Ignore, Move, Forget, Reply}
@@ -22,9 +22,9 @@ use Rattle.book.specs.declared.Activity.{Activity}
 use Rattle.book.specs.declared.Seat.{Seat}
 use Rattle.book.specs.Layout.{headSize, activityCount, seatCount, activityOf, seatOf, headOf, withState, withDirection}
 use Rattle.book.specs.Book.{headGood, activitiesGood, seatsGood, directionsGood, bookRefusal}
-use Rattle.book.specs.Good.{Good, good-of, good-to, seat-in}
+use Rattle.book.specs.Good.{good-of, good-to, seat-in}
 use Rattle.run.specs.Step.{refused, known, ruled, wanted, clashes, turned, judged, lotOf, answerTo, bookAfter, answerBytes, outcomeOf, turnedBook}
-use Rattle.run.specs.Run.{after, answers, filled, mostEvents, runRefusal, runBook, runAnswers}
+use Rattle.run.specs.Run.{after, answers, mostEvents, runRefusal, runBook, runAnswers}
 use Rattle.run.specs.Kept.{run-good}
 use Rattle.run.specs.Joined.{after-joined, answers-joined, length-answers}
 use Rattle.demands.specs.Firsts.{Test, test, first, First, given, only-then}

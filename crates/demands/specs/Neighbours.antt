@@ -2,15 +2,15 @@
 -- The argument: an event's answer is a function of its seat and its seat's activity; what it writes is that seat's state and that
 -- activity's direction (`moved`), and the laws of the book say that nothing else changes. The tables are never opened.
 -- Assumes nothing.
-use mathlib.Core.Path.{_≡_, refl, sym, ap, _∙_, subst}
-use mathlib.Core.Bool.{Bool, true, false, cond, false≢true}
-use mathlib.Core.Logic.{_≢_, _⊎_, inl, inr, ⊎-elim}
+use mathlib.Core.Path.{_≡_, refl, sym, ap, _∙_}
+use mathlib.Core.Bool.{Bool, true, false, cond}
+use mathlib.Core.Logic.{_⊎_, ⊎-elim}
 use mathlib.Core.List.{List}
 use Prim.Native.Nat.{ℕ, suc, _≤_, _<_}
 use native.Mathlib.Omega.{arith}
 use lib.ListN.{length}
-use lib.Dec.{ltb, eqb}
-use borrow.Author.Tests.{eq-eqb, ne-eqb, lt-ltb, le-ltb, ltb-true, ltb-false, eqb-true, eqb-false}
+use lib.Dec.{eqb}
+use borrow.Author.Tests.{eq-eqb, ne-eqb, lt-ltb, le-ltb, eqb-true, eqb-false}
 use Rattle.lemmas.specs.Bools.{cases}
 use Rattle.lemmas.specs.Orders.{same-or, below-or}
 use Rattle.records.specs.declared.Event.{Event}
@@ -23,7 +23,7 @@ use Rattle.book.specs.Lens.{moved-head, moved-length, moved-activities, moved-s
 use Rattle.book.specs.Same.{same-book}
 use Rattle.run.specs.Step.{refused, wanted, turned, judged, lotOf, answerTo, bookAfter, turnedBook}
 use Rattle.run.specs.Run.{after, answers}
-use Rattle.run.specs.Kept.{Legal, legal-event, step-good}
+use Rattle.run.specs.Kept.{legal-event, step-good}
 use Rattle.demands.specs.Groups.{groupOf, inGroup, only, onlyTo}
 use Rattle.demands.specs.OneGroup.{OneGroup, one-group}
 

@@ -3,23 +3,21 @@
 -- asks for the other is refused; and what is asked of a set direction without a clash is that direction.
 -- Assumes nothing.
 use mathlib.Core.Path.{_≡_, refl, sym, ap, _∙_}
-use mathlib.Core.Bool.{Bool, true, false, cond, not, _&&_, true≢false}
+use mathlib.Core.Bool.{Bool, true, false, true≢false}
 use mathlib.Core.Logic.{_≢_, _⊎_, ⊎-elim}
 use mathlib.Core.List.{List, [], _∷_}
 use Prim.Native.Nat.{ℕ, _<_}
 use native.Mathlib.Omega.{arith}
 use lib.Dec.{eqb}
 use borrow.Author.Tests.{eq-eqb, ne-eqb, eqb-true}
-use Rattle.lemmas.specs.Bools.{cases}
 use Rattle.lemmas.specs.Orders.{same-or}
 use Rattle.records.specs.declared.Event.{Event}
 use Rattle.book.specs.declared.Activity.{Activity}
-use Rattle.book.specs.declared.Seat.{Seat}
 use Rattle.book.specs.Layout.{activityCount, activityOf, seatOf, withDirection}
 use Rattle.book.specs.Good.{Good, seat-in}
 use Rattle.run.specs.Step.{wanted, clashes, turned, lotOf, answerTo, bookAfter}
 use Rattle.run.specs.Run.{after}
-use Rattle.run.specs.Kept.{Legal, legal-event, step-good}
+use Rattle.run.specs.Kept.{legal-event, step-good}
 use Rattle.demands.specs.Neighbours.{after-acts, after-activity, activityAfter, turn}
 
 -- the direction that an event asks for at a book, or 0

@@ -3,8 +3,8 @@
 -- run: `run-single`; a journal: `read-single`; the program's text: desk.)
 -- Assumes nothing.
 use mathlib.Core.Path.{_≡_}
-use mathlib.Core.List.{List, [], _∷_, _++_}
-use Prim.Native.Nat.{ℕ, _+_, _*_}
+use mathlib.Core.List.{List, [], _∷_}
+use Prim.Native.Nat.{ℕ, _*_}
 use lib.ListN.{take}
 use Rattle.records.specs.declared.Event.{Event}
 use Rattle.records.specs.Records.{at16, placed, eventAt, eventBytes}

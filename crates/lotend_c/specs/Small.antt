@@ -1,18 +1,17 @@
 -- A reading's line and count fit 32 bits: a text has no more lines than bytes, and at most 65,536 bytes.
 -- Assumes nothing.
-use mathlib.Core.Path.{_≡_, refl, ap}
+use mathlib.Core.Path.{_≡_, refl}
 use mathlib.Core.Bool.{Bool, true, false, cond}
-use mathlib.Core.List.{List, [], _∷_, _++_}
+use mathlib.Core.List.{List, [], _∷_}
 use Prim.Native.Nat.{ℕ, suc, _+_, _≤_}
 use native.Mathlib.Omega.{arith}
-use lib.ListN.{length, length-append}
+use lib.ListN.{length}
 use lib.Dec.{eqb, ltb}
 use borrow.Author.Tests.{ltb-false}
-use Rattle.records.specs.declared.Event.{Event}
 use Rattle.line.specs.Grammar.{newline, lineOf}
 use Rattle.line.specs.declared.Line.{Line}
 use Rattle.line.specs.declared.Line.the-variants.{Good, Refused}
-use Rattle.journal.specs.Journal.{longer, lines, hasRoom, roomed, Outcome, events, refused, infront, onLine, linesFrom, outcome, readingOf, reading}
+use Rattle.journal.specs.Journal.{longer, lines, hasRoom, roomed, Outcome, events, refused, onLine, linesFrom, outcome, readingOf, reading}
 
 more-lines : (x : ℕ) (ls : List (List ℕ)) → length (longer x ls) ≤ suc (length ls)
 more-lines x [] = omega arith

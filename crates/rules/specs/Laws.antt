@@ -2,21 +2,20 @@
 -- The argument: a legal entry has its role, table, way, message and state in range (`Within`), and what is to be shown of it is a
 -- test that antt computes at each of the 1,680 places in range.
 -- Assumes nothing.
-use mathlib.Core.Path.{_≡_, refl, sym, ap, _∙_, subst}
+use mathlib.Core.Path.{_≡_, refl}
 use mathlib.Core.Bool.{Bool, true, false, not, cond, _&&_, _||_, false≢true}
 use mathlib.Core.Logic.{_⊎_, inl, inr, ⊎-elim}
 use mathlib.Core.List.{List, [], _∷_}
-use Prim.Native.Nat.{ℕ, _+_, _≤_, _<_}
+use Prim.Native.Nat.{ℕ, _≤_}
 use native.Mathlib.Omega.{arith}
 use lib.Dec.{T, leb, eqb}
-use borrow.Author.Tests.{leb-true, eqb-true, eqb-false, ne-eqb}
-use Rattle.lemmas.specs.Bools.{both, either, implied, cases, T-is, never-true}
+use borrow.Author.Tests.{leb-true, eqb-true}
+use Rattle.lemmas.specs.Bools.{both, either, implied, T-is}
 use Rattle.lemmas.specs.Ranges.{each, each-at}
 use Rattle.rules.specs.declared.Entry.{Entry}
 use Rattle.rules.specs.declared.Entry.the-variants.{Invalid, Ignore, Move, Forget, Reply}
-use Rattle.rules.specs.declared.Answer.{Answer}
 use Rattle.rules.specs.Numbers.{received, sent, coordinator, participant, plain, split}
-use Rattle.rules.specs.Tables.{Line, P, S, B, speaks, says, look, oneOf, asSent, coordinatorReceives, coordinatorSends, participantReceives, participantSends, coordinatorReceivesLines, coordinatorSendsLines, participantReceivesLines, participantSendsLines}
+use Rattle.rules.specs.Tables.{Line, P, S, B, speaks, look, oneOf, asSent, coordinatorReceives, coordinatorSends, participantReceives, participantSends, coordinatorReceivesLines, coordinatorSendsLines, participantReceivesLines, participantSendsLines}
 use Rattle.rules.specs.Rules.{lastState, hasState, sends, receives, moves, entryOf, answerOf, legal}
 use Rattle.rules.specs.Outcome.{neededBy, askedBy}
 

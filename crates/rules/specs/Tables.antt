@@ -1,9 +1,9 @@
 -- The outline's section 'The tables', line by line in its order. What is not listed is Invalid State.
 -- Assumes nothing.
 use Prim.Native.Nat.{ℕ, zero, suc, _-_}
-use mathlib.Core.Bool.{Bool, true, false, not, cond, _&&_, _||_}
+use mathlib.Core.Bool.{Bool, false, not, cond, _&&_, _||_}
 use mathlib.Core.List.{List, [], _∷_}
-use lib.Dec.{leb, ltb, eqb}
+use lib.Dec.{eqb}
 use Rattle.rules.specs.declared.Entry.{Entry}
 use Rattle.rules.specs.declared.Entry.the-variants.{Invalid, Ignore, Move, Forget, Reply}
 use Rattle.rules.specs.Numbers.{cancel, complete, close, compensate, failed, exited, notCompleted, exit, completed, fail, cannotComplete, canceled, closed, compensated}

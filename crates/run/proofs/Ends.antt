@@ -1,20 +1,18 @@
 -- The ends of `step`: what it answers and leaves is what the definitions say, for an event whose seat is there (and one whose is not).
 -- Assumes nothing.
 use mathlib.Core.Path.{_≡_, refl, sym, ap, _∙_}
-use mathlib.Core.Bool.{Bool, true, false, cond, not, _&&_, and-false}
-use mathlib.Core.Logic.{_⊎_, ⊎-elim}
+use mathlib.Core.Bool.{Bool, true, false, and-false}
 use mathlib.Core.List.{List}
 use Prim.Native.Nat.{ℕ, _≤_, _<_}
-use native.Mathlib.Omega.{arith}
-use lib.Dec.{ltb, eqb}
-use borrow.Author.Tests.{eq-eqb, ne-eqb, lt-ltb, le-ltb, eqb-true, eqb-false}
+use lib.Dec.{eqb}
+use borrow.Author.Tests.{eq-eqb, ne-eqb, lt-ltb, le-ltb, eqb-false}
 use Rattle.records.specs.declared.Event.{Event}
 use Rattle.rules.specs.declared.Answer.{Answer}
 use Rattle.book.specs.declared.Activity.{Activity}
 use Rattle.book.specs.declared.Seat.{Seat}
-use Rattle.book.specs.Layout.{activityCount, seatCount, activityOf, seatOf, putState, moved, Shaped}
+use Rattle.book.specs.Layout.{activityCount, seatCount, seatOf, putState, moved, Shaped}
 use Rattle.book.specs.Lens.{state-kept, moved-kept}
-use Rattle.run.specs.Step.{refused, ruled, asked, wanted, clashes, turned, judged, lotOf, answerTo, bookAfter, outcomeOf, turnedBook}
+use Rattle.run.specs.Step.{refused, ruled, wanted, clashes, turned, judged, lotOf, answerTo, bookAfter, outcomeOf, turnedBook}
 use Rattle.run.specs.Kept.{ruled-stays}
 
 pub end-none : (b : List ℕ) (e : Event) → seatCount b ≤ e .seat → (refused 11 0 ≡ answerTo b e) × (b ≡ bookAfter b e)

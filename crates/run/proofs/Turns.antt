@@ -1,16 +1,15 @@
 -- One turn of the loop over events, and the ends of a run.
 -- Assumes nothing.
 use mathlib.Core.Path.{_≡_, refl, sym, ap, _∙_}
-use mathlib.Core.Bool.{Bool, true, false, _||_}
 use mathlib.Core.List.{List, [], _∷_, _++_}
-use Prim.Native.Nat.{ℕ, zero, suc, _+_, _*_, _/_, _%_, _≤_, _<_}
+use Prim.Native.Nat.{ℕ, _+_, _*_, _/_, _%_, _≤_, _<_}
 use native.Mathlib.Numerals.{add-one}
 use native.Mathlib.Omega.{arith}
-use lib.ListN.{length, drop}
+use lib.ListN.{length}
 use borrow.Author.Tests.{eq-eqb, ne-eqb, lt-ltb, le-ltb}
 use Rattle.records.specs.declared.Event.{Event}
 use Rattle.records.specs.Records.{placed, flat, firstEvents, eventAt}
-use Rattle.records.specs.Laws.{placed-next, flat-append, flat-one, length-flat, length-firstEvents}
+use Rattle.records.specs.Laws.{placed-next, flat-append, length-flat, length-firstEvents}
 use Rattle.rules.specs.declared.Answer.{Answer}
 use Rattle.book.specs.Book.{bookRefusal}
 use Rattle.run.specs.Step.{answerTo, bookAfter, answerBytes}

@@ -3,20 +3,19 @@
 -- the one that the state before needed, or the one just asked for; and an activity's direction only goes from none to one of two.
 -- Assumes nothing.
 use mathlib.Core.Path.{_≡_, refl, sym, ap, _∙_, subst}
-use mathlib.Core.Bool.{Bool, true, false, cond, not, _&&_, _||_, and-false, true≢false, false≢true}
+use mathlib.Core.Bool.{Bool, true, false, cond, not, _&&_, _||_, true≢false}
 use mathlib.Core.Logic.{_⊎_, inl, inr, ⊎-elim}
 use mathlib.Core.List.{List, [], _∷_}
 use Prim.Native.Nat.{ℕ, _≤_, _<_}
 use native.Mathlib.Omega.{arith}
-use lib.Dec.{ltb, leb, eqb}
+use lib.Dec.{ltb, eqb}
 use borrow.Author.Tests.{eq-eqb, ne-eqb, eqb-true, eqb-false, ltb-true, le-leb}
-use Rattle.lemmas.specs.Bools.{both, either, cases}
+use Rattle.lemmas.specs.Bools.{both, either}
 use Rattle.lemmas.specs.Orders.{same-or}
 use Rattle.lemmas.specs.Walks.{every-at}
 use Rattle.records.specs.declared.Event.{Event}
 use Rattle.rules.specs.declared.Entry.{Entry}
 use Rattle.rules.specs.declared.Entry.the-variants.{Invalid, Ignore, Move, Forget, Reply}
-use Rattle.rules.specs.declared.Answer.{Answer}
 use Rattle.rules.specs.Numbers.{sent, coordinator, close, compensate}
 use Rattle.rules.specs.Rules.{moves, entryOf, answerOf, legal, hasState}
 use Rattle.rules.specs.Outcome.{neededBy, suits, askedBy}
@@ -24,8 +23,8 @@ use Rattle.rules.specs.Laws.{legal-good, next-has, next-turns, Turns, none, kep
 use Rattle.book.specs.declared.Activity.{Activity}
 use Rattle.book.specs.declared.Seat.{Seat}
 use Rattle.book.specs.Layout.{activityCount, seatCount, activityOf, seatOf, moved}
-use Rattle.book.specs.Book.{atomic, mixed, activityGood, activityGoodAt, activitiesGood, agrees, agreesAt, directionsGood}
-use Rattle.book.specs.Good.{Good, seat-in, seat-has, moved-good}
+use Rattle.book.specs.Book.{atomic, activityGood, activityGoodAt, activitiesGood, agrees, agreesAt, directionsGood}
+use Rattle.book.specs.Good.{Good, seat-in, moved-good}
 use Rattle.run.specs.Step.{refused, known, ruled, asked, wanted, clashes, turned, judged, lotOf, answerTo, bookAfter, outcomeOf, turnedBook}
 use Rattle.run.specs.Run.{after}
 

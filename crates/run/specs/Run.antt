@@ -1,6 +1,6 @@
 -- A run: the book and the answers after a list of events, and what the whole call returns and leaves.
 -- Assumes nothing.
-use mathlib.Core.Bool.{Bool, cond, not, _||_}
+use mathlib.Core.Bool.{cond, not, _||_}
 use Prim.Native.Nat.{ℕ, _*_, _/_, _%_}
 use mathlib.Core.List.{List, [], _∷_, _++_}
 use lib.ListN.{length, drop}

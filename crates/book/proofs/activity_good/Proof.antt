@@ -18,4 +18,8 @@ unfolding activityGood
 returns-3 c = simp (ne-eqb _ _ (c .before .if1 .left), ne-eqb _ _ (c .if2 .left))
 
 pub activity-good-spec : {M : Type 1} → statement M
-activity-good-spec = tie.close (tie.spec returns returns-2 returns-3)
+activity-good-spec = tie.close
+    (tie.spec
+    returns
+    returns-2
+    returns-3)

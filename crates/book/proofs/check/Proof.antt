@@ -1,7 +1,6 @@
 -- Each test that fails is the first to fail, so its number is the definition's; one walk finds both 4 and 5, or neither (`Fits`).
 -- Assumes nothing.
-use mathlib.Core.Path.{_≡_, sym, _∙_}
-use native.Mathlib.Omega.{arith}
+use mathlib.Core.Path.{sym, _∙_}
 use borrow.Author.Needs.{needs}
 use borrow.Author.Tests.{le-ltb, lt-ltb, not-true, not-false}
 use Rattle.book.specs.Book.{bookRefusal}

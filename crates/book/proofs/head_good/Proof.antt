@@ -2,26 +2,11 @@
 -- Assumes nothing.
 use lib.ListN.{length}
 use denote.Ref.{now}
-use mathlib.Core.Path.{_≡_, _∙_}
+use mathlib.Core.Path.{_∙_}
 use Rattle.book.specs.Book.{numbersGood, headGood}
 use borrow.Author.Needs.{needs}
 use Rattle.book.proofs.head_good.Statement.{statement}
 use Rattle.book.proofs.head_good.Tie as tie
-
-activity-count-requires : tie.Need-activity-count-requires
-activity-count-requires c κs = search needs
-
-seat-count-requires : tie.Need-seat-count-requires
-seat-count-requires c κs = search needs
-
-u16-at-requires : tie.Need-u16-at-requires
-u16-at-requires c κs = search needs
-
-u16-at-requires-2 : tie.Need-u16-at-requires-2
-u16-at-requires-2 c κs = search needs
-
-numbers-good-requires : tie.Need-numbers-good-requires
-numbers-good-requires c κs = search needs
 
 returns : tie.Need-returns
 unfolding headGood
@@ -31,9 +16,9 @@ pub head-good-spec : {M : Type 1} → statement M
 head-good-spec =
     tie.close
     (tie.spec
-    activity-count-requires
-    seat-count-requires
-    u16-at-requires
-    u16-at-requires-2
-    numbers-good-requires
+    (λ c κs. search needs)
+    (λ c κs. search needs)
+    (λ c κs. search needs)
+    (λ c κs. search needs)
+    (λ c κs. search needs)
     returns)

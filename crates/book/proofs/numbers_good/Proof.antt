@@ -1,7 +1,7 @@
 -- Each test that fails makes the conjunction false; with all passed it is the last.
 -- Assumes nothing.
 use Rattle.book.specs.Book.{numbersGood}
-use borrow.Author.Tests.{eq-eqb, ne-eqb, le-leb, lt-leb, lt-ltb, le-ltb}
+use borrow.Author.Tests.{eq-eqb, ne-eqb, le-leb, lt-leb}
 use borrow.Author.Needs.{needs}
 use Rattle.book.proofs.numbers_good.Statement.{statement}
 use Rattle.book.proofs.numbers_good.Tie as tie
@@ -18,27 +18,9 @@ returns-3 : tie.Need-returns-3
 unfolding numbersGood
 returns-3 c = simp (ne-eqb _ _ (c .if3 .taken), le-leb _ _ (c .before .if2 .left), le-leb _ _ (c .before .before .if1 .left))
 
-mul-if4 : tie.Need-mul-if4
-mul-if4 c = search needs
-
-add-if4 : tie.Need-add-if4
-add-if4 c = search needs
-
 returns-4 : tie.Need-returns-4
 unfolding numbersGood
 returns-4 c = simp (ne-eqb _ _ (c .if4 .taken), eq-eqb _ _ (c .before .if3 .left), le-leb _ _ (c .before .before .if2 .left), le-leb _ _ (c .before .before .before .if1 .left))
-
-mul-result : tie.Need-mul-result
-mul-result c = search needs
-
-add-result : tie.Need-add-result
-add-result c = search needs
-
-mul-result-2 : tie.Need-mul-result-2
-mul-result-2 c = search needs
-
-add-result-2 : tie.Need-add-result-2
-add-result-2 c = search needs
 
 returns-5 : tie.Need-returns-5
 unfolding numbersGood
@@ -51,11 +33,11 @@ numbers-good-spec =
     returns
     returns-2
     returns-3
-    mul-if4
-    add-if4
+    (λ c. search needs)
+    (λ c. search needs)
     returns-4
-    mul-result
-    add-result
-    mul-result-2
-    add-result-2
+    (λ c. search needs)
+    (λ c. search needs)
+    (λ c. search needs)
+    (λ c. search needs)
     returns-5)

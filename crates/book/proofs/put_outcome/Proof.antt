@@ -1,6 +1,6 @@
 -- Two stores, and the second finds the header that the first left.
 -- Assumes nothing.
-use mathlib.Core.Path.{_≡_, sym, _∙_, ap, subst}
+use mathlib.Core.Path.{sym, _∙_, ap, subst}
 use mathlib.Core.List.{List}
 use Prim.Native.Nat.{ℕ}
 use native.Mathlib.Omega.{arith}
@@ -28,4 +28,9 @@ returns c =
     ∙ ap (λ (k : ℕ). putDirection (putState (now (x .book)) (x .n) (x .state)) k (x .direction)) (c .before .before .before .before .before .before .before .before .before .pre .1 .1 .0)
 
 pub put-outcome-spec : {M : Type 1} → statement M
-put-outcome-spec = tie.close (tie.spec (λ c κs. search needs) put-direction-requires (λ c. search needs) returns)
+put-outcome-spec = tie.close
+    (tie.spec
+    (λ c κs. search needs)
+    put-direction-requires
+    (λ c. search needs)
+    returns)

@@ -1,6 +1,6 @@
 -- A bad seat does not fit; a good one where it agrees with its activity, whose kind and direction are in range (`Fits`).
 -- Assumes nothing.
-use Prim.Native.Nat.{ℕ, _≤_, _<_}
+use Prim.Native.Nat.{ℕ, _<_}
 use mathlib.Core.Path.{_≡_, sym, _∙_, ap, ap₂}
 use mathlib.Core.Bool.{Bool, true}
 use mathlib.Core.List.{List}
@@ -12,7 +12,7 @@ use Rattle.lemmas.specs.Bools.{both}
 use Rattle.rules.specs.Laws.{HasState, has-state}
 use Rattle.book.specs.declared.Seat.{Seat}
 use Rattle.book.specs.declared.Activity.{Activity}
-use Rattle.book.specs.Layout.{activityCount, activityOf, seatOf}
+use Rattle.book.specs.Layout.{activityCount, seatOf}
 use Rattle.book.specs.Book.{seatGood, seatGoodAt}
 use Rattle.book.proofs.Fits.{direction-low, kind-of, fits-bad, fits-good}
 use Rattle.book.proofs.seat_fits.Statement.{statement}

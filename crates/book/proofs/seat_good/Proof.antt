@@ -2,8 +2,7 @@
 -- Assumes nothing.
 use Rattle.book.specs.Book.{seatGood}
 use native.Mathlib.Omega.{arith}
-use borrow.Author.Tests.{eq-eqb, ne-eqb, le-leb, lt-leb, le-ltb, lt-ltb, not-true, not-false, ltb-true}
-use mathlib.Core.Path.{_≡_, refl, sym, _∙_, ap}
+use borrow.Author.Tests.{le-ltb, lt-ltb}
 use borrow.Author.Needs.{needs}
 use Rattle.book.proofs.seat_good.Statement.{statement}
 use Rattle.book.proofs.seat_good.Tie as tie
@@ -12,12 +11,13 @@ returns : tie.Need-returns
 unfolding seatGood
 returns c = simp (le-ltb (c .before .before .args .x .activity) (c .before .before .args .a) (omega arith))
 
-has-state-requires : tie.Need-has-state-requires
-has-state-requires c κs = search needs
-
 returns-2 : tie.Need-returns-2
 unfolding seatGood
 returns-2 c = simp (lt-ltb (c .before .before .before .args .x .activity) (c .before .before .before .args .a) (omega arith)) (c .has-state .ensures)
 
 pub seat-good-spec : {M : Type 1} → statement M
-seat-good-spec = tie.close (tie.spec returns has-state-requires returns-2)
+seat-good-spec = tie.close
+    (tie.spec
+    returns
+    (λ c κs. search needs)
+    returns-2)

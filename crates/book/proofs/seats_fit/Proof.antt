@@ -2,14 +2,13 @@
 -- Assumes nothing.
 use mathlib.Core.Logic.{⊎-elim}
 use Rattle.lemmas.specs.Walks.{every, every-none, every-more, walk-end, walk-left}
-use Rattle.book.specs.Layout.{Shaped}
 use borrow.Author.Needs.{needs}
-use Prim.Native.Nat.{ℕ, _+_, _*_, _-_, _≤_, _<_}
+use Prim.Native.Nat.{_-_, _≤_}
 use native.Mathlib.Omega.{arith}
 use Rattle.book.specs.Book.{seatsFit, fitsAt}
-use mathlib.Core.Bool.{Bool, true, false}
-use mathlib.Core.Path.{_≡_, refl, sym, _∙_, ap}
-use borrow.Author.Tests.{eq-eqb, ne-eqb, le-ltb, lt-ltb, not-true, not-false, ltb-true}
+use mathlib.Core.Bool.{true}
+use mathlib.Core.Path.{_≡_, sym, _∙_}
+use borrow.Author.Tests.{not-true, not-false}
 use Rattle.book.proofs.seats_fit.Statement.{statement}
 use Rattle.book.proofs.seats_fit.Tie as tie
 
@@ -19,20 +18,11 @@ Inv-walk book s i₀ i = (i ≤ s) × (every (fitsAt book) i ≡ true)
 abbrev μ-walk : tie.MeasureT-walk
 μ-walk book s i₀ i = s - i
 
-seat-count-requires : tie.Need-seat-count-requires Inv-walk μ-walk
-seat-count-requires c κs = omega arith
-
 walk-holds : tie.Need-walk-holds Inv-walk μ-walk
 walk-holds c = (search needs, every-none _)
 
 seat-fits-requires : tie.Need-seat-fits-requires Inv-walk μ-walk
 seat-fits-requires c κs = (c .before .before .before .before .pre .0, (c .before .before .before .before .pre .1, omega arith))
-
-add-i : tie.Need-add-i Inv-walk μ-walk
-add-i c = omega arith
-
-walk-less : tie.Need-walk-less Inv-walk μ-walk
-walk-less c = omega arith
 
 walk-again : tie.Need-walk-again Inv-walk μ-walk
 walk-again c = (omega arith, every-more _ _ (c .before .before .before .walk .inv .1) (sym (c .before .seat-fits .ensures) ∙ not-false _ (c .if1 .left)))
@@ -50,10 +40,10 @@ seats-fit-spec =
     (tie.spec
     Inv-walk
     μ-walk
-    seat-count-requires
+    (λ c κs. omega arith)
     walk-holds
     seat-fits-requires
-    add-i
-    walk-less
+    (λ c. omega arith)
+    (λ c. omega arith)
     walk-again
     returns)

@@ -1,6 +1,6 @@
 -- What `journal::read` gives, in numbers of 32 bits: they fit (`small`).
 -- Assumes nothing.
-use mathlib.Core.Path.{_≡_, ap}
+use mathlib.Core.Path.{ap}
 use native.Mathlib.Omega.{arith}
 use lib.ListN.{length}
 use denote.Ref.{now}

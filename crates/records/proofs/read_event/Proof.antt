@@ -4,9 +4,6 @@ use borrow.Author.Needs.{needs}
 use Rattle.records.specs.Records.{eventAt}
 use Rattle.records.proofs.read_event.Statement.{statement}
 use Rattle.records.proofs.read_event.Tie as tie
-use Rattle.records.proofs.read_event.Reads as reads
-use Rattle.records.proofs.read_event.Lts as lts
-use Rattle.records.proofs.u16_at.Reads as u16-at-reads
 
 -- src/lib.rt:41:14
 mul-at : tie.Need-mul-at

@@ -6,7 +6,7 @@ use Prim.Native.Nat.{ℕ}
 use borrow.Author.Needs.{needs}
 use native.Mathlib.Omega.{arith}
 use Rattle.rules.specs.Tables.{coordinatorReceives, coordinatorReceivesLines, look, asReceived}
-use Rattle.rules.proofs.Law.{Table, arm, armOf, span, spanOf, rest, either, is-split, is-plain}
+use Rattle.rules.proofs.Law.{Table, arm, span, spanOf, rest, either}
 use Rattle.rules.proofs.coordinator_receives.Statement.{statement}
 use Rattle.rules.proofs.coordinator_receives.Tie as tie
 

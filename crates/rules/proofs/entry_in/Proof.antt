@@ -1,7 +1,6 @@
 -- The way and the role pick the rule that the definition picks.
 -- Assumes nothing.
 use native.Mathlib.Omega.{arith}
-use borrow.Author.Needs.{needs}
 use borrow.Author.Tests.{eq-eqb, ne-eqb}
 use Rattle.rules.specs.Rules.{entryOf}
 use Rattle.rules.specs.Laws.{has-state}

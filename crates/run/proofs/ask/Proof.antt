@@ -1,6 +1,5 @@
 -- Not a coordinator, not sent, or what the message asks.
 -- Assumes nothing.
-use mathlib.Core.Bool.{and-false}
 use borrow.Author.Needs.{needs}
 use borrow.Author.Tests.{eq-eqb, ne-eqb}
 use Rattle.run.specs.Step.{asked}

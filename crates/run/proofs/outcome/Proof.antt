@@ -1,7 +1,6 @@
 -- A refusal stays; a clash is 15; else the answer stays.
 -- Assumes nothing.
 use mathlib.Core.Path.{sym, _∙_}
-use mathlib.Core.Bool.{and-false}
 use borrow.Author.Needs.{needs}
 use borrow.Author.Tests.{eq-eqb, ne-eqb}
 use Rattle.run.specs.Step.{outcomeOf}

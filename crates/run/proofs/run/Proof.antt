@@ -1,6 +1,6 @@
 -- Each refusal is the first that applies; a good run is `work`.
 -- Assumes nothing.
-use mathlib.Core.Path.{_≡_, sym, _∙_}
+use mathlib.Core.Path.{sym, _∙_}
 use native.Mathlib.Omega.{arith}
 use borrow.Author.Needs.{needs}
 use Rattle.run.proofs.Turns.{refuses, ends, bad-book, bad-length, too-many, no-room, fine}

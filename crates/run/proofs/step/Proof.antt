@@ -1,6 +1,6 @@
 -- Each way out is an end of the definitions (`Ends`). A good book has the shape that the accessors ask for.
 -- Assumes nothing.
-use mathlib.Core.Path.{_≡_, refl, sym, _∙_, ap}
+use mathlib.Core.Path.{sym, _∙_, ap}
 use mathlib.Core.Logic.{⊎-elim}
 use Prim.Native.Nat.{_≤_, _<_}
 use native.Mathlib.Omega.{arith}
@@ -10,8 +10,8 @@ use Rattle.rules.specs.Rules.{hasState}
 use Rattle.book.specs.declared.Seat.{Seat}
 use Rattle.book.specs.declared.Activity.{Activity}
 use Rattle.book.specs.Layout.{seatCount, activityOf, seatOf, putState}
-use Rattle.book.specs.Good.{Good, good-of, shaped, seat-in, seat-has}
-use Rattle.run.specs.Step.{ruled, asked, wanted, outcomeOf, turnedBook}
+use Rattle.book.specs.Good.{good-of, shaped, seat-in, seat-has}
+use Rattle.run.specs.Step.{ruled, asked, outcomeOf, turnedBook}
 use Rattle.run.specs.Kept.{wanted-none, wanted-other, wanted-atomic}
 use Rattle.run.proofs.Ends.{end-none, end-kept, end-outcome}
 use Rattle.run.proofs.step.Statement.{statement}

@@ -1,11 +1,10 @@
 -- After i turns the book and the area are those after the first i events; the book is good all along (`run-good`).
 -- Assumes nothing.
-use Prim.Native.Nat.{_≤_, _-_, _*_}
+use Prim.Native.Nat.{_≤_, _-_}
 use native.Mathlib.Omega.{arith}
-use mathlib.Core.Path.{_≡_, refl, sym, _∙_, ap}
+use mathlib.Core.Path.{_≡_, refl, _∙_, ap}
 use lib.ListN.{length}
 use denote.Ref.{now}
-use borrow.Author.Needs.{needs}
 use Rattle.records.specs.Records.{firstEvents}
 use Rattle.book.specs.Book.{bookRefusal}
 use Rattle.book.specs.Good.{good-of, good-to}

@@ -1,6 +1,6 @@
 -- `show::fill` meets its contract. The invariant: the length stays, and each byte passed has the value.
 -- Assumes nothing.
-use Prim.Native.Nat.{ℕ, _+_, _≤_, _<_, _-_}
+use Prim.Native.Nat.{ℕ, _≤_, _<_, _-_}
 use mathlib.Core.Path.{_≡_, refl, _∙_}
 use native.Mathlib.Omega.{arith}
 use borrow.Author.Count.{below-more}
