@@ -33,7 +33,7 @@ use Rattle.book.specs.Layout.{activityOf, seatOf}
 use Rattle.book.specs.Book.{numbersGood, headGood, activityGood, activitiesGood, seatGood, seatsGood, agrees, agreesAt, directionsGood, bookRefusal}
 use Rattle.run.specs.Run.{after as ran, answers, runBook, runAnswers}
 use Rattle.demands.specs.Groups.{firstAnswers}
-use Rattle.demands.specs.Demands.{Ready, good-book, good-area}
+use Rattle.demands.specs.Whole.{Ready, good-book, good-area}
 use Rattle.demands.specs.Cases.{exampleBook, exampleEvents, examplePrints, all-hold, example-ends}
 use Rattle.demands.specs.Firsts.{Test, test, first, First, given, only-then}
 

@@ -3,8 +3,9 @@ pub mod OneGroup
 pub mod Neighbours
 pub mod Firsts
 pub mod Bytes
-pub mod Demands
+pub mod Whole
 pub mod Cases
 pub mod Journals
 pub mod OneOutcome
 pub mod Single
+pub mod Demands

@@ -22,7 +22,7 @@ use Rattle.run.specs.Kept.{step-good, run-good}
 use Rattle.demands.specs.Groups.{firstAnswers}
 use Rattle.demands.specs.Bytes.{events-joined}
 use Rattle.demands.specs.Neighbours.{after-acts, after-seats, after-length}
-use Rattle.demands.specs.Demands.{Ready, good-book, good-area}
+use Rattle.demands.specs.Whole.{Ready, good-book, good-area}
 use Rattle.line.specs.Laws.{Sound, Judged as LineJudged, line-judged}
 use Rattle.line.specs.Grammar.{lineOf}
 use Rattle.line.specs.declared.Line.{Line}
