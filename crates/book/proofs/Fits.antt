@@ -9,7 +9,7 @@ use mathlib.Core.List.{List}
 use Prim.Native.Nat.{ℕ, _+_, _-_, _≤_, _<_}
 use native.Mathlib.Omega.{arith}
 use lib.Dec.{eqb}
-use borrow.Author.Tests.{eq-eqb, ne-eqb, leb-true, eqb-true}
+use borrow.Author.Tests.{eq-eqb, ne-eqb, eqb-true}
 use Rattle.lemmas.specs.Bools.{both, both-of, cases}
 use Rattle.lemmas.specs.Orders.{same-or}
 use Rattle.lemmas.specs.Walks.{every-at, every-all}
@@ -19,19 +19,6 @@ use Rattle.book.specs.declared.Seat.{Seat}
 use Rattle.book.specs.declared.Activity.{Activity}
 use Rattle.book.specs.Layout.{activityCount, seatCount, activityOf, seatOf}
 use Rattle.book.specs.Book.{atomic, mixed, activityGood, activityGoodAt, activitiesGood, seatGoodAt, seatsGood, agrees, agreesAt, directionsGood, fitsAt, seatsFit}
-
--- a good activity's direction is at most 2
-low-direction : (kind direction : ℕ) → activityGood kind direction ≡ true → direction ≤ 2
-unfolding activityGood
-low-direction kind direction h = at (eqb kind atomic) refl where
-  at : (t : Bool) → eqb kind atomic ≡ t → direction ≤ 2
-  at true e = leb-true direction 2 (simp e at h)
-  at false e =
-      let z : direction ≡ 0 = eqb-true direction 0 (both (eqb kind mixed) (eqb direction 0) (simp e at h) .1) in omega arith
-
-pub direction-low : (b : List ℕ) (k : ℕ) → activitiesGood b ≡ true → k < activityCount b → activityOf b k .direction ≤ 2
-unfolding activitiesGood
-direction-low b k h l = low-direction (activityOf b k .kind) (activityOf b k .direction) (every-at (activityGoodAt b) (activityCount b) k h l)
 
 -- a good activity's kind is 1 or 2
 pub kind-of : (b : List ℕ) (k : ℕ) → activitiesGood b ≡ true → k < activityCount b → (1 ≤ activityOf b k .kind) × (activityOf b k .kind ≤ 2)

@@ -238,7 +238,6 @@ fn seats_good(book: &[u8]) -> bool
 fn agree(kind: u8, direction: u8, role: u8, state: u8) -> bool
     requires { ⌜ (1 ≤ kind) × (kind ≤ 2) ⌝ }
     requires { ⌜ (1 ≤ role) × (role ≤ 2) ⌝ }
-    requires { ⌜ (direction < 3) × (state < 16) ⌝ }
     ensures { λ r. ⌜ r ≡ agrees kind direction role state ⌝ }
 {
     // 0 where a direction is asked of the seat: at an atomic activity's coordinator.

@@ -386,14 +386,20 @@ pub fn moves_message(role: u8, way: u8, m: u8) -> bool
 
 // 1 where a coordinator's state suits its atomic activity's direction, else 0: a number, so that a walk need not jump by it.
 pub fn direction_suits(direction: u8, s: u8) -> u8
-    requires { ⌜ (direction < 3) × (s < 16) ⌝ }
     ensures { λ r. ⌜ r ≡ cond (suits direction s) 1 0 ⌝ }
 {
+    if state::LAST < s {
+        return 1;
+    }
+    if DIRECTION_COMPENSATE < direction {
+        // No state needs such a direction.
+        return bit(SUITS, DIRECTION_NONE, s) as u8;
+    }
     bit(SUITS, direction, s) as u8
 }
 
 // What the tables say of a seat in state `s` that received or sends the message, for a state that the role has.
-pub fn entry_in(role: u8, table: u8, way: u8, m: u8, s: u8) -> Entry
+fn entry_in(role: u8, table: u8, way: u8, m: u8, s: u8) -> Entry
     requires { ⌜ hasState role table s ≡ true ⌝ }
     ensures { λ r. ⌜ r ≡ entryOf role table way m s ⌝ }
 {
@@ -413,7 +419,7 @@ pub fn entry_in(role: u8, table: u8, way: u8, m: u8, s: u8) -> Entry
     }
 }
 
-// The same for any role, table, way, message and state.
+// What the tables say, for any role, table, way, message and state.
 pub fn entry_at(role: u8, table: u8, way: u8, m: u8, s: u8) -> Entry
     ensures { λ r. ⌜ r ≡ entryOf role table way m s ⌝ }
 {

@@ -1,10 +1,8 @@
 // One event, and a run over an event list.
 ghost use mathlib.Core.Path.{_≡_};
-ghost use mathlib.Core.Bool.{true};
 ghost use Prim.Native.Nat.{_+_, _*_, _≤_, _<_};
 ghost use lib.ListN.{length};
 ghost use Rattle.records.specs.Records.{placed, firstEvents};
-ghost use Rattle.rules.specs.Rules.{hasState};
 ghost use Rattle.book.specs.Layout.{activityCount, seatCount, seatOf, moved, Shaped};
 ghost use Rattle.book.specs.Book.{bookRefusal};
 ghost use Rattle.run.specs.Step.{refused, known, ruled, asked, clashes, outcomeOf, turnedBook, answerTo, bookAfter, answerBytes, answerAt};
@@ -55,7 +53,6 @@ fn is_known(way: u8, m: u8) -> bool
 
 // What the seat's table answers, or refusal 12, 13 or 14.
 fn rule(x: Seat, way: u8, m: u8) -> Answer
-    requires { ⌜ hasState (x .role) (x .table) (x .state) ≡ true ⌝ }
     ensures { λ r. ⌜ r ≡ ruled x way m ⌝ }
 {
     if !is_known(way, m) {
@@ -64,7 +61,7 @@ fn rule(x: Seat, way: u8, m: u8) -> Answer
     if !rules::moves_message(x.role, way, m) {
         return refuse(REFUSED_WAY, x.state);
     }
-    let entry = rules::entry_in(x.role, x.table, way, m, x.state);
+    let entry = rules::entry_at(x.role, x.table, way, m, x.state);
     rules::answer_of(entry, x.state)
 }
 

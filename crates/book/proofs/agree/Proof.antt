@@ -20,7 +20,7 @@ returns c =
     let x = c .before .args in
     let p = c .before .pre in
     ap (λ (m : ℕ). not (eqb ((x .kind - 1) + (x .role - 1) + m) 0)) (c .direction-suits .ensures)
-    ∙ sum-agrees (x .kind) (x .direction) (x .role) (x .state) (p .0 .0) (p .0 .1) (p .1 .0 .0) (p .1 .0 .1)
+    ∙ sum-agrees (x .kind) (x .direction) (x .role) (x .state) (p .0 .0) (p .0 .1) (p .1 .0) (p .1 .1)
 
 pub agree-spec : {M : Type 1} → statement M
 agree-spec =

@@ -1,4 +1,4 @@
--- A bad seat does not fit; a good one where it agrees with its activity, whose kind and direction are in range (`Fits`).
+-- A bad seat does not fit; a good one where it agrees with its activity, whose kind is in range (`Fits`).
 -- Assumes nothing.
 use Prim.Native.Nat.{ℕ, _<_}
 use mathlib.Core.Path.{_≡_, sym, _∙_, ap, ap₂}
@@ -14,7 +14,7 @@ use Rattle.book.specs.declared.Seat.{Seat}
 use Rattle.book.specs.declared.Activity.{Activity}
 use Rattle.book.specs.Layout.{activityCount, seatOf}
 use Rattle.book.specs.Book.{seatGood, seatGoodAt}
-use Rattle.book.proofs.Fits.{direction-low, kind-of, fits-bad, fits-good}
+use Rattle.book.proofs.Fits.{kind-of, fits-bad, fits-good}
 use Rattle.book.proofs.seat_fits.Statement.{statement}
 use Rattle.book.proofs.seat_fits.Tie as tie
 
@@ -38,13 +38,8 @@ agree-requires c κs =
     let y = c .read-activity .ensures in
     let k : c .before .before .before .before .read-seat .result .activity < activityCount (now (c .before .before .before .before .before .before .args .book)) = omega (arith, g .0, c .before .before .before .activity-count .ensures .0) in
     let kind = kind-of _ _ (c .before .before .before .before .before .before .pre .1 .0) k in
-    let is-kind = ap (λ (z : Activity). z .kind) y in (
-      (omega (arith, kind .0, is-kind), omega (arith, kind .1, is-kind)),
-      (
-        (g .1 .role-low, g .1 .role-high),
-        (omega (arith, direction-low _ _ (c .before .before .before .before .before .before .pre .1 .0) k, ap (λ (z : Activity). z .direction) y), omega (arith, g .1 .high)),
-      ),
-    )
+    let is-kind = ap (λ (z : Activity). z .kind) y in
+    ((omega (arith, kind .0, is-kind), omega (arith, kind .1, is-kind)), (g .1 .role-low, g .1 .role-high))
 
 pub seat-fits-spec : {M : Type 1} → statement M
 seat-fits-spec =

@@ -13,7 +13,7 @@ returns-3 : tie.Need-returns-3
 unfolding ruled
 returns-3 c =
     simp (sym (c .before .before .before .before .before .is-known .ensures) ∙ not-false _ (c .before .before .before .before .if1 .left), sym (c .before .before .before .moves-message .ensures) ∙ not-false _ (c .before .before .if2 .left))
-    (c .answer-of .ensures ∙ ap (λ (e : Entry). answerOf e (c .before .before .before .before .before .before .args .x .state)) (c .before .entry-in .ensures))
+    (c .answer-of .ensures ∙ ap (λ (e : Entry). answerOf e (c .before .before .before .before .before .before .args .x .state)) (c .before .entry-at .ensures))
 
 pub rule-spec : {M : Type 1} → statement M
 unfolding ruled
@@ -26,6 +26,6 @@ rule-spec =
     (λ c κs. search needs)
     (λ c κs. search needs)
     (λ c. simp (sym (c .before .before .before .before .is-known .ensures) ∙ not-false _ (c .before .before .before .if1 .left), sym (c .before .before .moves-message .ensures) ∙ not-true _ (c .before .if2 .taken)) (c .refuse2 .ensures))
-    (λ c κs. c .before .before .before .before .pre)
+    (λ c κs. search needs)
     (λ c κs. search needs)
     returns-3)

@@ -6,11 +6,10 @@ use Prim.Native.Nat.{_≤_, _<_}
 use native.Mathlib.Omega.{arith}
 use denote.Ref.{now}
 use borrow.Author.Needs.{needs}
-use Rattle.rules.specs.Rules.{hasState}
 use Rattle.book.specs.declared.Seat.{Seat}
 use Rattle.book.specs.declared.Activity.{Activity}
 use Rattle.book.specs.Layout.{seatCount, activityOf, seatOf, putState}
-use Rattle.book.specs.Good.{good-of, shaped, seat-in, seat-has}
+use Rattle.book.specs.Good.{good-of, shaped, seat-in}
 use Rattle.run.specs.Step.{ruled, asked, outcomeOf, turnedBook}
 use Rattle.run.specs.Kept.{wanted-none, wanted-other, wanted-atomic}
 use Rattle.run.proofs.Ends.{end-none, end-kept, end-outcome}
@@ -29,12 +28,6 @@ returns c =
 read-seat-requires : tie.Need-read-seat-requires
 read-seat-requires c κs =
     let g = good-of _ (c .before .before .before .before .before .pre) in (shaped _ (g .head), omega (arith, c .before .before .seat-count .ensures .0, c .before .if1 .left))
-
-rule-requires : tie.Need-rule-requires
-rule-requires c κs =
-    let g = good-of _ (c .before .before .before .before .before .before .pre) in
-    let l : c .before .before .before .before .before .before .args .e .seat < seatCount (now (c .before .before .before .before .before .before .args .book)) = omega (arith, c .before .before .before .seat-count .ensures .0, c .before .before .if1 .left) in
-    (λ j. hasState (c .read-seat .ensures j .role) (c .read-seat .ensures j .table) (c .read-seat .ensures j .state)) ∙ seat-has _ _ (g .seats) l
 
 read-activity-requires : tie.Need-read-activity-requires
 read-activity-requires c κs =
@@ -97,7 +90,7 @@ step-spec =
     (λ c. search needs)
     returns
     read-seat-requires
-    rule-requires
+    (λ c κs. search needs)
     (λ c κs. search needs)
     read-activity-requires
     (λ c κs. search needs)
