@@ -2,9 +2,9 @@
 ghost use mathlib.Core.Path.{_≡_};
 ghost use Prim.Native.Nat.{_+_, _*_, _≤_, _<_};
 ghost use lib.ListN.{length};
-ghost use mathlib.Core.Bool.{true};
 ghost use Rattle.book.specs.Layout.{headSize, activityCount, seatCount, sizeOf, activityOf, seatOf, putState, putDirection, moved, Shaped};
-ghost use Rattle.book.specs.Book.{activityGood, seatGood, activityGoodAt, seatGoodAt, agrees, fitsAt, numbersGood, headGood, activitiesGood, seatsGood, seatsFit, bookRefusal};
+ghost use Rattle.book.specs.Marks.{seatMarks, Marked};
+ghost use Rattle.book.specs.Book.{activityGood, seatGood, activityGoodAt, seatGoodAt, fitsAt, numbersGood, headGood, activitiesGood, seatsGood, seatsFit, bookRefusal};
 
 pub struct Activity {
     pub kind: u8,
@@ -32,6 +32,9 @@ pub const ACTIVITIES_MOST: usize = 256;
 
 pub const SEATS_MOST: usize = 4096;
 
+// From so many seats on a table of marks pays.
+const MANY_SEATS: usize = 64;
+
 pub const REFUSED_BOOK_SHORT: u8 = 1;
 
 pub const REFUSED_LAYOUT: u8 = 2;
@@ -43,7 +46,8 @@ pub const REFUSED_SEAT: u8 = 4;
 pub const REFUSED_SEAT_DIRECTION: u8 = 5;
 
 fn wide(x: u8) -> usize
-    ensures { λ r. ⌜ r ≡ x ⌝ }
+    ensures value { λ r. ⌜ r ≡ x ⌝ }
+    ensures most { λ r. ⌜ r < 256 ⌝ }
 {
     x as usize
 }
@@ -90,7 +94,8 @@ pub fn read_activity(book: &[u8], k: usize) -> Activity
 pub fn read_seat(book: &[u8], n: usize) -> Seat
     requires { ⌜ Shaped (now book) ⌝ }
     requires { ⌜ n < seatCount (now book) ⌝ }
-    ensures { λ r. ⌜ r ≡ seatOf (now (book .entry)) n ⌝ }
+    ensures value { λ r. ⌜ r ≡ seatOf (now (book .entry)) n ⌝ }
+    ensures most { λ r. ⌜ r .activity < 256 ⌝ }
 {
     let from = records::u16_at(book, 6);
     let at = from + SEAT_SIZE * n;
@@ -132,16 +137,12 @@ pub fn put_outcome(book: &mut [u8], n: usize, k: usize, state: u8, direction: u8
     put_direction(book, k, direction);
 }
 
+// An atomic activity has directions up to 2 and a mixed one none: two fewer for one kind more. So it is one comparison, as no processor
+// foresees an activity's kind.
 fn activity_good(kind: u8, direction: u8) -> bool
     ensures { λ r. ⌜ r ≡ activityGood kind direction ⌝ }
 {
-    if kind == ATOMIC {
-        return direction <= rules::DIRECTION_COMPENSATE;
-    }
-    if kind == MIXED {
-        return direction == rules::DIRECTION_NONE;
-    }
-    false
+    (ATOMIC <= kind) & (2 * (kind as usize) + direction as usize <= 4)
 }
 
 // The header's four numbers and the length.
@@ -234,37 +235,35 @@ fn seats_good(book: &[u8]) -> bool
     i == s
 }
 
-// Rule 5 at a good seat, found by sums and not by jumps: no processor foresees a seat's state, its role or its activity's kind.
-fn agree(kind: u8, direction: u8, role: u8, state: u8) -> bool
-    requires { ⌜ (1 ≤ kind) × (kind ≤ 2) ⌝ }
-    requires { ⌜ (1 ≤ role) × (role ≤ 2) ⌝ }
-    ensures { λ r. ⌜ r ≡ agrees kind direction role state ⌝ }
+// The states that a seat of an activity may have, by rules 4 and 5 together.
+fn seat_marks(kind: u8, direction: u8) -> u64
+    ensures { λ r. ⌜ r ≡ seatMarks kind direction ⌝ }
 {
-    // 0 where a direction is asked of the seat: at an atomic activity's coordinator.
-    let free = (kind - ATOMIC) + (role - rules::COORDINATOR);
-    free + rules::direction_suits(direction, state) != 0
+    if kind == ATOMIC {
+        rules::suiting(direction)
+    } else {
+        rules::STATES
+    }
 }
 
 // A seat as rules 4 and 5 want it.
 fn seat_fits(book: &[u8], n: usize) -> bool
     requires { ⌜ Shaped (now book) ⌝ }
-    requires { ⌜ activitiesGood (now book) ≡ true ⌝ }
     requires { ⌜ n < seatCount (now book) ⌝ }
     ensures { λ r. ⌜ r ≡ fitsAt (now (book .entry)) n ⌝ }
 {
     let x = read_seat(book, n);
-    let a = activity_count(book);
-    if !seat_good(a, x) {
+    let k = x.activity;
+    if activity_count(book) <= k {
         return false;
     }
-    let y = read_activity(book, x.activity);
-    agree(y.kind, y.direction, x.role, x.state)
+    let y = read_activity(book, k);
+    rules::marked(seat_marks(y.kind, y.direction), x.role, x.table, x.state)
 }
 
 // Every seat is one that the rules allow, and none is against its activity's direction.
 fn seats_fit(book: &[u8]) -> bool
     requires { ⌜ Shaped (now book) ⌝ }
-    requires { ⌜ activitiesGood (now book) ≡ true ⌝ }
     ensures { λ r. ⌜ r ≡ seatsFit (now (book .entry)) ⌝ }
 {
     let s = seat_count(book);
@@ -276,6 +275,70 @@ fn seats_fit(book: &[u8]) -> bool
         i += 1;
     }
     i == s
+}
+
+// The marks of each activity's seats, at its number.
+fn put_marks(book: &[u8], marks: &mut [u64])
+    requires { ⌜ Shaped (now book) ⌝ }
+    requires { ⌜ Marked (now book) 0 (now marks) ⌝ }
+    ensures { λ _. ⌜ Marked (now (book .entry)) (activityCount (now (book .entry))) (now (marks .exit)) ⌝ }
+{
+    let a = activity_count(book);
+    let mut i: usize = 0;
+    while i < a {
+        let y = read_activity(book, i);
+        marks[i] = seat_marks(y.kind, y.direction);
+        i += 1;
+    }
+}
+
+// A seat as `seat_fits` has it, where each activity's marks are at hand. An activity that there is not has none.
+fn seat_marked(book: &[u8], marks: &[u64], n: usize) -> bool
+    requires { ⌜ Shaped (now book) ⌝ }
+    requires { ⌜ n < seatCount (now book) ⌝ }
+    requires { ⌜ Marked (now book) (activityCount (now book)) (now marks) ⌝ }
+    ensures { λ r. ⌜ r ≡ fitsAt (now (book .entry)) n ⌝ }
+{
+    let x = read_seat(book, n);
+    let k = x.activity;
+    rules::marked(marks[k], x.role, x.table, x.state)
+}
+
+fn seats_marked(book: &[u8], marks: &[u64]) -> bool
+    requires { ⌜ Shaped (now book) ⌝ }
+    requires { ⌜ Marked (now book) (activityCount (now book)) (now marks) ⌝ }
+    ensures { λ r. ⌜ r ≡ seatsFit (now (book .entry)) ⌝ }
+{
+    let s = seat_count(book);
+    let mut i: usize = 0;
+    'walk: while i < s {
+        if !seat_marked(book, marks, i) {
+            break 'walk;
+        }
+        i += 1;
+    }
+    i == s
+}
+
+// Every activity's marks are made once, and each seat is looked up in them: worth their making in a book of many seats.
+fn many_fit(book: &[u8]) -> bool
+    requires { ⌜ Shaped (now book) ⌝ }
+    ensures { λ r. ⌜ r ≡ seatsFit (now (book .entry)) ⌝ }
+{
+    let mut marks = [0; 256];
+    put_marks(book, &mut marks);
+    seats_marked(book, &marks)
+}
+
+fn all_fit(book: &[u8]) -> bool
+    requires { ⌜ Shaped (now book) ⌝ }
+    ensures { λ r. ⌜ r ≡ seatsFit (now (book .entry)) ⌝ }
+{
+    if seat_count(book) < MANY_SEATS {
+        seats_fit(book)
+    } else {
+        many_fit(book)
+    }
 }
 
 // The refusal of a book, or 0. A good book is walked once for rules 4 and 5; only a bad one is walked again, to tell them apart.
@@ -291,7 +354,7 @@ pub fn check(book: &[u8]) -> u8
     if !activities_good(book) {
         return REFUSED_ACTIVITY;
     }
-    if seats_fit(book) {
+    if all_fit(book) {
         return rules::GOOD;
     }
     if !seats_good(book) {

@@ -13,7 +13,9 @@ use Rattle.book.specs.Layout.{activityCount, seatCount, sizeOf, activityOf, sea
 use Rattle.book.specs.Book.{bookRefusal}
 use Rattle.run.specs.Step.{answerAt}
 use Rattle.names.specs.Names.{messageNamed, wayNamed}
+use Rattle.words.specs.Words.{wordAt}
 use Rattle.line.specs.Grammar.{newline, lineMost, indexOf, lineOf}
+use Rattle.line.specs.Quick.{aidBytes}
 use Rattle.text.specs.Text.{Put}
 
 -- what is equal to x is one thing
@@ -71,11 +73,17 @@ module _ (l : List ℕ) where
   pub way-named-single : Single (wayNamed l)
   way-named-single = single (wayNamed l)
 
-  pub body-size-single : Single (indexOf newline (take lineMost l))
-  body-size-single = single (indexOf newline (take lineMost l))
+  pub next-size-single : Single (indexOf newline (take lineMost l))
+  next-size-single = single (indexOf newline (take lineMost l))
 
-  pub said-single : Single (lineOf l)
-  said-single = single (lineOf l)
+  pub next-said-single : Single (lineOf l)
+  next-said-single = single (lineOf l)
+
+  pub u64-at-single : (at : ℕ) → Single (wordAt l at)
+  u64-at-single at = single (wordAt l at)
+
+pub aids-single : Single aidBytes
+aids-single = single aidBytes
 
 -- the functions of `text`: one area and one place
 pub put-single : (area : List ℕ) (at : ℕ) (text l l′ : List ℕ) (r r′ : ℕ) → Put area at text l r → Put area at text l′ r′ → (l ≡ l′) × (r ≡ r′)

@@ -1,11 +1,15 @@
 // A journal: a text whose lines become event records. They are kept aside until the last line is good, so a refusal writes nothing.
 ghost use mathlib.Core.Path.{_≡_};
-ghost use Prim.Native.Nat.{_≤_};
+ghost use Prim.Native.Nat.{_*_, _≤_, min};
 ghost use lib.ListN.{length};
+ghost use Rattle.line.specs.Quick.{aidBytes};
 ghost use Rattle.journal.specs.Journal.{hasRoom, roomed, refusalOf, linesFrom, lines, reading, areaAfter, Owed};
 use line::Line;
 
 pub const TEXT_MOST: usize = 65536;
+
+// So short a text has at most as many events, for a line has a byte at least: the records need few bytes aside.
+const SHORT_TEXT: usize = 256;
 
 pub const EVENTS_MOST: usize = 4096;
 
@@ -31,24 +35,43 @@ pub fn read(text: &[u8], area: &mut [u8]) -> Reading
             count: 0,
         };
     }
-    let mut kept = aside();
-    let got = read_lines(text, area.len(), &mut kept);
+    let aids = line::aids();
+    if text.len() <= SHORT_TEXT {
+        let mut kept = [0; 1024];
+        return read_aside(text, area, &mut kept, &aids);
+    }
+    let mut kept = [0; 16384];
+    read_aside(text, area, &mut kept, &aids)
+}
+
+// The same of a text that is not too long, with room aside for as many events as it has bytes, or for 4,096.
+fn read_aside(text: &[u8], area: &mut [u8], kept: &mut [u8], aids: &[u8]) -> Reading
+    requires text { ⌜ length (now text) ≤ 65536 ⌝ }
+    requires room { ⌜ 4 * min (length (now text)) 4096 ≤ length (now kept) ⌝ }
+    requires aids { ⌜ now aids ≡ aidBytes ⌝ }
+    ensures value { λ r. ⌜ r ≡ reading (now (text .entry)) (length (now (area .entry))) ⌝ }
+    ensures bytes { λ _. ⌜ now (area .exit) ≡ areaAfter (now (text .entry)) (now (area .entry)) ⌝ }
+{
+    let got = read_lines(text, area.len(), kept, aids);
     let size = records::EVENT_SIZE * got.count;
     bytes::copy(&kept[..size], area);
     got
 }
 
 // Reads line after line and keeps the events, until one is refused or the text ends.
-fn read_lines(text: &[u8], area: usize, kept: &mut [u8]) -> Reading
-    requires { ⌜ 16384 ≤ length (now kept) ⌝ }
+fn read_lines(text: &[u8], area: usize, kept: &mut [u8], aids: &[u8]) -> Reading
+    requires room { ⌜ 4 * min (length (now text)) 4096 ≤ length (now kept) ⌝ }
+    requires aids { ⌜ now aids ≡ aidBytes ⌝ }
     ensures { λ r. ⌜ Owed (linesFrom area 0 (lines (now (text .entry)))) r (now (kept .exit)) area ⌝ }
 {
     let mut at = 0;
     let mut n = 0;
     while at < text.len() {
         let rest = &text[at..];
-        let size = line::body_size(rest);
-        let said = in_room(line::said(rest, size), has_room(area, n));
+        let next = line::next(rest, aids);
+        let size = next.size;
+        let line = next.said;
+        let said = in_room(line, has_room(area, n));
         let Line::Good(event) = said else {
             return Reading {
                 refusal: refusal(said),
@@ -103,11 +126,4 @@ fn refusal(said: Line) -> u8
         Line::Good(_) => 0,
         Line::Refused(number) => number,
     }
-}
-
-// Room for the records of 4,096 events.
-fn aside() -> [u8; 16384]
-    ensures { λ r. ⌜ 16384 ≡ length r ⌝ }
-{
-    [0; 16384]
 }

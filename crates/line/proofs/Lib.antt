@@ -1,2 +1,5 @@
 pub mod Decimal
 pub mod Steps
+pub mod Runs
+pub mod Rows
+pub mod Found

@@ -1,8 +1,11 @@
 // One line of a journal: where its newline stands, and the event that it says or the number of its refusal.
+mod quick;
+
 ghost use mathlib.Core.Path.{_≡_};
 ghost use Prim.Native.Nat.{_≤_};
 ghost use lib.ListN.{length, take};
 ghost use Rattle.line.specs.Grammar.{indexOf, thirdOf, secondOf, fieldsOf, lineOf, lineMost, newline};
+ghost use Rattle.line.specs.Quick.{aidBytes};
 ghost use Rattle.line.specs.Seats.{seatIn, digitsIn};
 use records::Event;
 
@@ -38,8 +41,42 @@ enum Seat {
     Nothing,
 }
 
+// What a line says, and the place of its newline.
+pub struct NextLine {
+    pub said: Line,
+    pub size: usize,
+}
+
+// What lines are compared with: the caller makes it once for a text.
+pub fn aids() -> [u8; 320]
+    ensures { λ r. ⌜ r ≡ aidBytes ⌝ }
+{
+    quick::aids()
+}
+
+// The line that the text begins with. `size` is the smaller of 26 and the text's length where its first 26 bytes have no newline.
+pub fn next(rest: &[u8], aids: &[u8]) -> NextLine
+    requires { ⌜ now aids ≡ aidBytes ⌝ }
+    ensures said { λ r. ⌜ r .said ≡ lineOf (now (rest .entry)) ⌝ }
+    ensures place { λ r. ⌜ r .size ≡ indexOf newline (take lineMost (now (rest .entry))) ⌝ }
+    ensures within { λ r. ⌜ r .size ≤ length (now (rest .entry)) ⌝ }
+{
+    let found = quick::read(rest, aids);
+    let quick::Quick::Read { event, size } = found else {
+        let size = body_size(rest);
+        return NextLine {
+            said: said(rest, size),
+            size,
+        };
+    };
+    NextLine {
+        said: Line::Good(event),
+        size,
+    }
+}
+
 // How many bytes of a line stand before its newline; the smaller of 26 and the text's length where none of its first 26 bytes is one.
-pub fn body_size(rest: &[u8]) -> usize
+fn body_size(rest: &[u8]) -> usize
     ensures place { λ r. ⌜ r ≡ indexOf newline (take lineMost (now (rest .entry))) ⌝ }
     ensures within { λ r. ⌜ r ≤ length (now (rest .entry)) ⌝ }
 {
@@ -51,7 +88,7 @@ pub fn body_size(rest: &[u8]) -> usize
 }
 
 // What the line says that the text begins with; `size` is the answer of the function above.
-pub fn said(rest: &[u8], size: usize) -> Line
+fn said(rest: &[u8], size: usize) -> Line
     requires { ⌜ size ≡ indexOf newline (take lineMost (now rest)) ⌝ }
     ensures { λ r. ⌜ r ≡ lineOf (now (rest .entry)) ⌝ }
 {

@@ -12,7 +12,7 @@ use lib.ListN.{length, getD}
 use borrow.Author.Tests.{eqb-true}
 use Rattle.names.specs.Names.{messageNames, wayNames, nameOf, wayName, same, named, look, messageNamed, wayNamed}
 
-same-is : (l m : List ℕ) → same l m ≡ true → l ≡ m
+pub same-is : (l m : List ℕ) → same l m ≡ true → l ≡ m
 same-is [] [] h = refl
 same-is [] (y ∷ m) h = absurd (false≢true h)
 same-is (x ∷ l) [] h = absurd (false≢true h)

@@ -76,7 +76,7 @@ others-last : (N : Type 0) (kss : List (List ℕ)) (s : ℕ) → Others N kss s 
 others-last N [] s o = o
 others-last N (ks ∷ kss) s o = others-last (N × (OneOf ks s → ⊥)) kss s o .0
 
-none : (N : Type 0) (kss : List (List ℕ)) (s : ℕ) → Others N kss s → T (anyKey kss s) → ⊥
+pub none : (N : Type 0) (kss : List (List ℕ)) (s : ℕ) → Others N kss s → T (anyKey kss s) → ⊥
 none N [] s o t = t
 none N (ks ∷ kss) s o t =
     ⊎-elim (λ h. others-last (N × (OneOf ks s → ⊥)) kss s o .1 (hit ks s h)) (λ h. none (N × (OneOf ks s → ⊥)) kss s o h) (or-yes (hasKey ks s) (anyKey kss s) t)

@@ -1,3 +1,3 @@
 pub mod Law
 pub mod Once
-pub mod Bits
+pub mod Places

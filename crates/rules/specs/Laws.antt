@@ -3,7 +3,7 @@
 -- test that antt computes at each of the 1,680 places in range.
 -- Assumes nothing.
 use mathlib.Core.Path.{_≡_, refl}
-use mathlib.Core.Bool.{Bool, true, false, not, cond, _&&_, _||_, false≢true}
+use mathlib.Core.Bool.{Bool, true, false, not, cond, _&&_, _||_, false≢true, true≢false}
 use mathlib.Core.Logic.{_⊎_, inl, inr, ⊎-elim}
 use mathlib.Core.List.{List, [], _∷_}
 use Prim.Native.Nat.{ℕ, _≤_}
@@ -274,3 +274,26 @@ legal-good Ignore s h = refl
 legal-good (Move next) s h = refl
 legal-good (Forget next) s h = refl
 legal-good (Reply m) s h = refl
+
+-- a pair that the tables list is in a state that the role has
+pub legal-state : (role table way m s : ℕ) → legal (entryOf role table way m s) ≡ true → hasState role table s ≡ true
+unfolding entryOf
+legal-state role table way m s h = at (hasState role table s) refl where
+  at : (t : Bool) → hasState role table s ≡ t → t ≡ true
+  at true e = refl
+  at false e = absurd (false≢true (simp e at h))
+
+-- a pair that they list is answered, and one that they do not list is Invalid
+pub legal-answered : (e : Entry) (s : ℕ) → legal e ≡ true → answerOf e s .refusal ≡ 0
+legal-answered Invalid s h = absurd (false≢true h)
+legal-answered Ignore s h = refl
+legal-answered (Move next) s h = refl
+legal-answered (Forget next) s h = refl
+legal-answered (Reply m) s h = refl
+
+pub illegal-invalid : (e : Entry) → legal e ≡ false → Invalid ≡ e
+illegal-invalid Invalid h = refl
+illegal-invalid Ignore h = absurd (true≢false h)
+illegal-invalid (Move next) h = absurd (true≢false h)
+illegal-invalid (Forget next) h = absurd (true≢false h)
+illegal-invalid (Reply m) h = absurd (true≢false h)

@@ -4,5 +4,6 @@ pub mod Parts
 pub mod Rules
 pub mod Outcome
 pub mod Laws
+pub mod Marks
 pub mod Cases
 pub mod Single

@@ -1,6 +1,6 @@
 -- What the code's small parts answer. No promise of a public function speaks of these.
 -- Assumes nothing.
-use Prim.Native.Nat.{ℕ, _+_, _*_, _/_, _%_, _^_}
+use Prim.Native.Nat.{ℕ}
 use mathlib.Core.Bool.{Bool, cond}
 use lib.Dec.{eqb}
 use Rattle.rules.specs.declared.Entry.{Entry}
@@ -15,7 +15,3 @@ endsOf home isSplit = cond isSplit (Forget home) (Forget 12)
 
 unfoldable pub againOf : ℕ → Bool → ℕ → Entry
 againOf home isSplit s = cond isSplit (cond (eqb s home) (Move home) Invalid) (cond (eqb s 12) (Move 12) Invalid)
-
--- bit 16 row + place of a number of marks
-unfoldable pub bitOf : ℕ → ℕ → ℕ → Bool
-bitOf marks row place = eqb (marks / 2 ^ (16 * row + place) % 2) 1

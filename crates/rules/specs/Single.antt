@@ -1,12 +1,13 @@
 -- Two results that a contract allows are equal, for each public function: each contract is an equation to a definition.
 -- Assumes nothing.
 use mathlib.Core.Path.{_≡_, sym, _∙_}
-use mathlib.Core.Bool.{Bool, cond}
+use mathlib.Core.Bool.{Bool}
 use Prim.Native.Nat.{ℕ}
 use Rattle.rules.specs.declared.Entry.{Entry}
 use Rattle.rules.specs.declared.Answer.{Answer}
-use Rattle.rules.specs.Rules.{hasState, moves, entryOf, answerOf}
-use Rattle.rules.specs.Outcome.{askedBy, suits}
+use Rattle.rules.specs.Rules.{hasState, moves, entryOf, answerOf, legal}
+use Rattle.rules.specs.Outcome.{askedBy}
+use Rattle.rules.specs.Marks.{markedIn, suitingMarks}
 
 pub one-result : {A : Type 0} {x r r′ : A} → r ≡ x → r′ ≡ x → r ≡ r′
 one-result p q = p ∙ sym q
@@ -24,8 +25,14 @@ module _ (role table way m s : ℕ) (e : Entry) where
   pub answer-of-single : (r r′ : Answer) → r ≡ answerOf e s → r′ ≡ answerOf e s → r ≡ r′
   answer-of-single r r′ = one-result
 
-  pub direction-suits-single : (d r r′ : ℕ) → r ≡ cond (suits d s) 1 0 → r′ ≡ cond (suits d s) 1 0 → r ≡ r′
-  direction-suits-single d r r′ = one-result
+  pub is-legal-single : (r r′ : Bool) → r ≡ legal (entryOf role table way m s) → r′ ≡ legal (entryOf role table way m s) → r ≡ r′
+  is-legal-single r r′ = one-result
+
+  pub marked-single : (marks : ℕ) (r r′ : Bool) → r ≡ markedIn marks role table s → r′ ≡ markedIn marks role table s → r ≡ r′
+  marked-single marks r r′ = one-result
+
+  pub suiting-single : (d r r′ : ℕ) → r ≡ suitingMarks d → r′ ≡ suitingMarks d → r ≡ r′
+  suiting-single d r r′ = one-result
 
   pub direction-asked-single : (r r′ : ℕ) → r ≡ askedBy m → r′ ≡ askedBy m → r ≡ r′
   direction-asked-single r r′ = one-result

@@ -3,12 +3,14 @@ pub mod message;
 pub mod state;
 
 ghost use mathlib.Core.Path.{_≡_};
-ghost use mathlib.Core.Bool.{true, cond};
+ghost use mathlib.Core.Bool.{true};
 ghost use Prim.Native.Nat.{_<_};
-ghost use Rattle.rules.specs.Parts.{lateOf, endsOf, againOf, bitOf};
+ghost use lib.ListN.{getD};
+ghost use Rattle.rules.specs.Parts.{lateOf, endsOf, againOf};
 ghost use Rattle.rules.specs.Tables.{coordinatorReceives, coordinatorSends, participantReceives, participantSends};
-ghost use Rattle.rules.specs.Rules.{hasState, entryOf, moves, answerOf};
-ghost use Rattle.rules.specs.Outcome.{askedBy, suits};
+ghost use Rattle.rules.specs.Rules.{hasState, entryOf, sends as sendsIt, receives as receivesIt, moves, answerOf, legal};
+ghost use Rattle.rules.specs.Outcome.{askedBy};
+ghost use Rattle.rules.specs.Marks.{markedIn, suitingMarks, rowOf, legalRows};
 
 // What a table says of a state and a message.
 pub enum Entry {
@@ -53,12 +55,23 @@ pub const DIRECTION_CLOSE: u8 = 1;
 
 pub const DIRECTION_COMPENSATE: u8 = 2;
 
-// A bit each (see `bit`): the states of a role under a table, the messages that a role moves a way, the states that suit a direction.
-const STATES: u64 = 0xfff6_1ff6_fffe_1ffe;
+// A bit each (see `marked`): the states of a role under a table, and those of them that suit a direction of an atomic activity.
+pub const STATES: u64 = 0xfff6_1ff6_fffe_1ffe;
 
-const MOVES: u64 = 0x7f00_00fe_00fe_7f00;
+const STATES_UNDIRECTED: u64 = 0xfff6_1ff6_fd3e_1d3e;
 
-const SUITS: u64 = 0xffbf_fd7f_fd3f;
+const STATES_TO_CLOSE: u64 = 0xfff6_1ff6_fd7e_1d7e;
+
+const STATES_TO_COMPENSATE: u64 = 0xfff6_1ff6_ffbe_1fbe;
+
+// What takes role, table and state, a byte each, to the number of their bit: states 16 places on, tables 12 and roles 21.
+const SPREAD: u64 = 0x20_1001;
+
+// The first role and the first table, as they stand in that number.
+const FIRSTS: u64 = 257;
+
+// The row of no message: between those of the two ways, so that it is looked up as they are.
+const NO_ROW: usize = 15;
 
 pub const GOOD: u8 = 0;
 
@@ -334,68 +347,120 @@ fn participant_sends(split: bool, m: u8, s: u8) -> Entry
     }
 }
 
-// Bit 16 row + place of a number of marks.
-fn bit(marks: u64, row: u8, place: u8) -> bool
-    requires { ⌜ (row < 4) × (place < 16) ⌝ }
-    ensures { λ r. ⌜ r ≡ bitOf marks row place ⌝ }
+// Whether a role, a table and a state have their bit among 64 marks: bit 32 role + 16 table + state, counted from the first role and
+// table. The three are looked at as one number, for a walk over seats has no time for three.
+pub fn marked(marks: u64, role: u8, table: u8, s: u8) -> bool
+    ensures { λ r. ⌜ r ≡ markedIn marks role table s ⌝ }
 {
-    let at = 16 * (row as u64) + place as u64;
-    (marks >> at) % 2 == 1
+    let three = role as u64 + 256 * (table as u64) + 65536 * (s as u64);
+    let x = std::num::wrapping_sub_u64(three, FIRSTS);
+    if (x % 256 <= 1) & (x / 256 % 256 <= 1) & (x < 1048576) {
+        let at = x * SPREAD / 65536 % 64;
+        return (marks >> at) % 2 == 1;
+    }
+    false
 }
 
 // Whether a role has a state under a table.
 pub fn has_state(role: u8, table: u8, s: u8) -> bool
     ensures { λ r. ⌜ r ≡ hasState role table s ⌝ }
 {
-    if role < COORDINATOR {
-        return false;
+    marked(STATES, role, table, s)
+}
+
+// The states that a seat of an atomic activity with that direction may have.
+pub fn suiting(direction: u8) -> u64
+    ensures { λ r. ⌜ r ≡ suitingMarks direction ⌝ }
+{
+    match direction {
+        DIRECTION_CLOSE => STATES_TO_CLOSE,
+        DIRECTION_COMPENSATE => STATES_TO_COMPENSATE,
+        _ => STATES_UNDIRECTED,
     }
-    if PARTICIPANT < role {
-        return false;
-    }
-    if table < PLAIN {
-        return false;
-    }
-    if SPLIT < table {
-        return false;
-    }
-    if state::LAST < s {
-        return false;
-    }
-    bit(STATES, 2 * (role - COORDINATOR) + (table - PLAIN), s)
 }
 
 // Whether a role moves a message that way.
 pub fn moves_message(role: u8, way: u8, m: u8) -> bool
     ensures { λ r. ⌜ r ≡ moves role way m ⌝ }
 {
-    if role < COORDINATOR {
-        return false;
-    }
-    if PARTICIPANT < role {
-        return false;
-    }
-    if SENT < way {
-        return false;
-    }
-    if message::COMPENSATED < m {
-        return false;
-    }
-    bit(MOVES, 2 * (role - COORDINATOR) + way, m)
+    ((way == SENT) & sends(role, m)) | ((way == RECEIVED) & receives(role, m))
 }
 
-// 1 where a coordinator's state suits its atomic activity's direction, else 0: a number, so that a walk need not jump by it.
-pub fn direction_suits(direction: u8, s: u8) -> u8
-    ensures { λ r. ⌜ r ≡ cond (suits direction s) 1 0 ⌝ }
+fn sends(role: u8, m: u8) -> bool
+    ensures { λ r. ⌜ r ≡ sendsIt role m ⌝ }
 {
-    if state::LAST < s {
-        return 1;
+    let to_participant = (role == COORDINATOR)
+        & (message::CANCEL <= m)
+        & (m <= message::NOT_COMPLETED);
+    let to_coordinator = (role == PARTICIPANT) & (message::EXIT <= m) & (m <= message::COMPENSATED);
+    to_participant | to_coordinator
+}
+
+fn receives(role: u8, m: u8) -> bool
+    ensures { λ r. ⌜ r ≡ receivesIt role m ⌝ }
+{
+    let from_coordinator = (role == PARTICIPANT)
+        & (message::CANCEL <= m)
+        & (m <= message::NOT_COMPLETED);
+    let from_participant = (role == COORDINATOR)
+        & (message::EXIT <= m)
+        & (m <= message::COMPENSATED);
+    from_coordinator | from_participant
+}
+
+// Where the marks of a message that goes that way stand.
+fn legal_row(way: u8, m: u8) -> usize
+    ensures { λ r. ⌜ r ≡ rowOf way m ⌝ }
+{
+    if (way <= SENT) & (message::CANCEL <= m) & (m <= message::COMPENSATED) {
+        m as usize + 16 * (way as usize)
+    } else {
+        NO_ROW
     }
-    if DIRECTION_COMPENSATE < direction {
-        // No state needs such a direction.
-        return bit(SUITS, DIRECTION_NONE, s) as u8;
+}
+
+// The roles, tables and states in which a row's message is legal.
+fn legal_marks(row: usize) -> u64
+    ensures { λ r. ⌜ r ≡ getD legalRows row 0 ⌝ }
+{
+    match row {
+        1 => 0xfff6_1ff6_0000_0000,
+        2 => 0xfff6_1ff6_0000_0000,
+        3 => 0xf060_1060_0000_0000,
+        4 => 0xf2a0_12a0_0000_0000,
+        5 => 0xf300_1300_0000_0000,
+        6 => 0xf800_1800_0000_0000,
+        7 => 0xf400_1400_0000_0000,
+        8 => 0xf81e_181e,
+        9 => 0xf2f8_12f8,
+        10 => 0xf39e_139e,
+        11 => 0xf41e_141e,
+        12 => 0xf00c_100c,
+        13 => 0xf040_1040,
+        14 => 0xf080_1080,
+        17 => 0x1e_001e,
+        18 => 0x12_0012,
+        19 => 0x60_0060,
+        20 => 0xa0_00a0,
+        21 => 0x2300_1300,
+        22 => 0x4800_1800,
+        23 => 0x8400_1400,
+        24 => 0x812_0812_0000_0000,
+        25 => 0x30_0030_0000_0000,
+        26 => 0x396_0396_0000_0000,
+        27 => 0x412_0412_0000_0000,
+        28 => 0x2004_1004_0000_0000,
+        29 => 0x4040_1040_0000_0000,
+        30 => 0x8080_1080_0000_0000,
+        _ => 0,
     }
-    bit(SUITS, direction, s) as u8
+}
+
+// Whether the tables list the pair of state and message.
+pub fn is_legal(role: u8, table: u8, way: u8, m: u8, s: u8) -> bool
+    ensures { λ r. ⌜ r ≡ legal (entryOf role table way m s) ⌝ }
+{
+    marked(legal_marks(legal_row(way, m)), role, table, s)
 }
 
 // What the tables say of a seat in state `s` that received or sends the message, for a state that the role has.
@@ -423,7 +488,7 @@ fn entry_in(role: u8, table: u8, way: u8, m: u8, s: u8) -> Entry
 pub fn entry_at(role: u8, table: u8, way: u8, m: u8, s: u8) -> Entry
     ensures { λ r. ⌜ r ≡ entryOf role table way m s ⌝ }
 {
-    if !has_state(role, table, s) {
+    if !is_legal(role, table, way, m, s) {
         return Entry::Invalid;
     }
     entry_in(role, table, way, m, s)

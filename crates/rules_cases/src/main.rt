@@ -218,19 +218,32 @@ fn needed() {
     show::line_end();
 }
 
-// The direction that a state needs: it suits that one, and not none.
+// Whether a coordinator of an atomic activity with that direction may be in that state.
+fn suits(direction: u8, s: u8) -> bool {
+    rules::marked(
+        rules::suiting(direction),
+        rules::COORDINATOR,
+        rules::SPLIT,
+        s,
+    )
+}
+
+// The direction that a state needs: it suits that one, and not none. What is no state needs none.
 fn needed_by(i: usize) -> u8 {
     if 15 < i {
         return rules::DIRECTION_NONE;
     }
     let s = i as u8;
-    if rules::direction_suits(rules::DIRECTION_NONE, s) == 1 {
+    if !rules::has_state(rules::COORDINATOR, rules::SPLIT, s) {
         return rules::DIRECTION_NONE;
     }
-    if rules::direction_suits(rules::DIRECTION_CLOSE, s) == 1 {
+    if suits(rules::DIRECTION_NONE, s) {
+        return rules::DIRECTION_NONE;
+    }
+    if suits(rules::DIRECTION_CLOSE, s) {
         return rules::DIRECTION_CLOSE;
     }
-    if rules::direction_suits(rules::DIRECTION_COMPENSATE, s) == 1 {
+    if suits(rules::DIRECTION_COMPENSATE, s) {
         return rules::DIRECTION_COMPENSATE;
     }
     255

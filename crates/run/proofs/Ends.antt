@@ -1,66 +1,97 @@
--- The ends of `step`: what it answers and leaves is what the definitions say, for an event whose seat is there (and one whose is not).
+-- The ends of `step`: what it answers and leaves is what the definitions say.
+-- The argument: an event that the tables do not list is refused 12, 13 or 14, whichever test fails first; one that they list is known
+-- and moved that way, so the tables answer it, unless its activity's direction is the other.
 -- Assumes nothing.
 use mathlib.Core.Path.{_≡_, refl, sym, ap, _∙_}
-use mathlib.Core.Bool.{Bool, true, false, and-false}
+use mathlib.Core.Bool.{Bool, true, false, cond, _&&_, false≢true, and-false}
 use mathlib.Core.List.{List}
-use Prim.Native.Nat.{ℕ, _≤_, _<_}
+use Prim.Native.Nat.{ℕ, _+_, _≤_, _<_}
+use native.Mathlib.Omega.{arith}
 use lib.Dec.{eqb}
-use borrow.Author.Tests.{eq-eqb, ne-eqb, lt-ltb, le-ltb, eqb-false}
+use borrow.Author.Tests.{eq-eqb, ne-eqb, lt-ltb, le-ltb, le-leb}
+use Rattle.lemmas.specs.Bools.{both-of}
 use Rattle.records.specs.declared.Event.{Event}
+use Rattle.rules.specs.declared.Entry.{Entry}
 use Rattle.rules.specs.declared.Answer.{Answer}
+use Rattle.rules.specs.Rules.{moves, entryOf, answerOf, legal}
+use Rattle.rules.specs.Laws.{Within, within, moves-in, legal-moves, legal-answered, illegal-invalid}
 use Rattle.book.specs.declared.Activity.{Activity}
 use Rattle.book.specs.declared.Seat.{Seat}
-use Rattle.book.specs.Layout.{activityCount, seatCount, seatOf, putState, moved, Shaped}
-use Rattle.book.specs.Lens.{state-kept, moved-kept}
-use Rattle.run.specs.Step.{refused, ruled, wanted, clashes, turned, judged, lotOf, answerTo, bookAfter, outcomeOf, turnedBook}
-use Rattle.run.specs.Kept.{ruled-stays}
+use Rattle.book.specs.Layout.{seatCount, seatOf, moved}
+use Rattle.run.specs.Step.{refused, known, ruled, unlistedNumber, wanted, clashes, turned, judged, lotOf, answerTo, bookAfter, outcomeOf, turnedBook}
+
+abbrev entryAt : Seat → ℕ → ℕ → Entry
+entryAt x way m = entryOf (x .role) (x .table) way m (x .state)
+
+in-known : (way m : ℕ) → way ≤ 1 → 1 ≤ m → m ≤ 14 → known way m ≡ true
+unfolding known
+in-known way m w l h = both-of (both-of (le-leb way 1 w) (le-leb 1 m l)) (le-leb m 14 h)
+
+module _ (x : Seat) (way m : ℕ) where
+  ruled-unlisted : legal (entryAt x way m) ≡ false → ruled x way m ≡ refused (unlistedNumber (x .role) way m) (x .state)
+  unfolding ruled unlistedNumber
+  ruled-unlisted h = at (known way m) refl (moves (x .role) way m) refl where
+    at : (t : Bool) → known way m ≡ t → (u : Bool) → moves (x .role) way m ≡ u → ruled x way m ≡ refused (unlistedNumber (x .role) way m) (x .state)
+    at false e false f = simp (e, f)
+    at false e true f = let i = moves-in (x .role) way m f in absurd (false≢true (sym e ∙ in-known way m (i .way-high) (i .low) (i .high)))
+    at true e false f = simp (e, f)
+    at true e true f = simp (e, f) (ap (λ (z : Entry). answerOf z (x .state)) (sym (illegal-invalid (entryAt x way m) h)))
+
+  ruled-listed : legal (entryAt x way m) ≡ true → ruled x way m ≡ answerOf (entryAt x way m) (x .state)
+  unfolding ruled
+  ruled-listed h =
+      let i = within (x .role) (x .table) way m (x .state) h in
+      simp (in-known way m (i .way-high) (i .low) (i .high), legal-moves (x .role) (x .table) way m (x .state) h)
+
+  unlisted-some : unlistedNumber (x .role) way m ≡ 0 → ⊥
+  unfolding unlistedNumber
+  unlisted-some e = omega arith
 
 pub end-none : (b : List ℕ) (e : Event) → seatCount b ≤ e .seat → (refused 11 0 ≡ answerTo b e) × (b ≡ bookAfter b e)
 unfolding answerTo bookAfter turnedBook
 end-none b e l = (simp (le-ltb _ _ l), simp (le-ltb _ _ l))
 
-module _ (b : List ℕ) (e : Event) (sh : Shaped b) (l : e .seat < seatCount b) (kl : seatOf b (e .seat) .activity < activityCount b) where
+module _ (b : List ℕ) (e : Event) (l : e .seat < seatCount b) where
   abbrev x : Seat
   x = seatOf b (e .seat)
 
   abbrev y : Activity
   y = lotOf b (e .seat)
 
-  abbrev q : Answer
-  q = ruled (seatOf b (e .seat)) (e .way) (e .message)
+  abbrev entry : Entry
+  entry = entryAt (seatOf b (e .seat)) (e .way) (e .message)
 
   abbrev w : ℕ
   w = wanted (lotOf b (e .seat) .kind) (seatOf b (e .seat) .role) (e .way) (e .message)
 
-  here : answerTo b e ≡ judged y x (e .way) (e .message)
-  unfolding answerTo
+  here : answerTo b e ≡ outcomeOf (y .direction) w (x .state) (ruled x (e .way) (e .message))
+  unfolding answerTo judged
   here = simp (lt-ltb _ _ l)
 
-  -- nothing is wanted: the tables' answer, and its state stored
-  calm : w ≡ 0 → q ≡ answerTo b e
-  unfolding judged clashes outcomeOf
-  calm z = sym (here ∙ simp (eq-eqb w 0 z, and-false))
+  -- a refused event leaves the book
+  left : (r s : ℕ) → (r ≡ 0 → ⊥) → refused r s ≡ answerTo b e → (refused r s ≡ answerTo b e) × (b ≡ bookAfter b e)
+  unfolding bookAfter turnedBook
+  left r s ne q = (q, simp (sym (ap (λ (a : Answer). eqb (a .refusal) 0) q) ∙ ne-eqb r 0 ne))
 
-  pub end-kept : w ≡ 0 → {b′ : List ℕ} → b′ ≡ putState b (e .seat) (q .state) → (q ≡ answerTo b e) × (b′ ≡ bookAfter b e)
-  unfolding bookAfter turned turnedBook
-  end-kept z is-b = (calm z, is-b ∙ at (eqb (q .refusal) 0) refl) where
-    at : (t : Bool) → eqb (q .refusal) 0 ≡ t → putState b (e .seat) (q .state) ≡ bookAfter b e
-    at true f =
-        let g : eqb (answerTo b e .refusal) 0 ≡ true = ap (λ (a : Answer). eqb (a .refusal) 0) (sym (calm z)) ∙ f in
-        simp (g, eq-eqb w 0 z) (sym (moved-kept b (e .seat) (q .state) sh kl) ∙ ap (λ (a : Answer). moved b (e .seat) (a .state) (y .direction)) (calm z))
-    at false f =
-        let g : eqb (answerTo b e .refusal) 0 ≡ false = ap (λ (a : Answer). eqb (a .refusal) 0) (sym (calm z)) ∙ f in
-        simp g (ap (putState b (e .seat)) (ruled-stays x (e .way) (e .message) (eqb-false _ _ f)) ∙ state-kept b (e .seat))
+  pub end-unlisted : legal entry ≡ false → (refused (unlistedNumber (x .role) (e .way) (e .message)) (x .state) ≡ answerTo b e) × (b ≡ bookAfter b e)
+  unfolding outcomeOf
+  end-unlisted h =
+      let n = unlistedNumber (x .role) (e .way) (e .message) in
+      left n (x .state) (unlisted-some x (e .way) (e .message))
+      (sym (here ∙ rw (ruled-unlisted x (e .way) (e .message) h) (simp (ne-eqb n 0 (unlisted-some x (e .way) (e .message))))))
 
-  -- a direction is wanted
-  wants : outcomeOf (y .direction) w (x .state) q ≡ answerTo b e
-  unfolding judged outcomeOf
-  wants = sym here
+  module _ (h : legal entry ≡ true) where
+    good : eqb (answerOf entry (x .state) .refusal) 0 ≡ true
+    good = eq-eqb _ _ (legal-answered entry (x .state) h)
 
-  pub end-outcome : (w ≡ 0 → ⊥) → {r : Answer} {b′ : List ℕ} → r ≡ outcomeOf (y .direction) w (x .state) q → b′ ≡ turnedBook b (e .seat) w r
-      → (r ≡ answerTo b e) × (b′ ≡ bookAfter b e)
-  unfolding bookAfter turnedBook turned
-  end-outcome nz {r} {b′} is-r is-b = (is-r ∙ wants, is-b ∙ ap (turnedBook b (e .seat) w) (is-r ∙ wants) ∙ at (eqb (answerTo b e .refusal) 0) refl) where
-    at : (t : Bool) → eqb (answerTo b e .refusal) 0 ≡ t → turnedBook b (e .seat) w (answerTo b e) ≡ bookAfter b e
-    at true f = simp (f, ne-eqb w 0 nz)
-    at false f = simp f
+    pub end-clash : clashes (y .direction) w ≡ true → (refused 15 (x .state) ≡ answerTo b e) × (b ≡ bookAfter b e)
+    unfolding outcomeOf
+    end-clash k =
+        left 15 (x .state) (λ z. omega arith) (sym (here ∙ rw (ruled-listed x (e .way) (e .message) h) (simp (good, k))))
+
+    pub end-listed : clashes (y .direction) w ≡ false → {b′ : List ℕ} → b′ ≡ moved b (e .seat) (answerOf entry (x .state) .state) (turned (y .direction) w)
+        → (answerOf entry (x .state) ≡ answerTo b e) × (b′ ≡ bookAfter b e)
+    unfolding outcomeOf bookAfter turnedBook
+    end-listed k is-b =
+        let q : answerOf entry (x .state) ≡ answerTo b e = sym (here ∙ rw (ruled-listed x (e .way) (e .message) h) (simp (k, and-false))) in
+        (q, is-b ∙ sym (simp (sym (ap (λ (a : Answer). eqb (a .refusal) 0) q) ∙ good) (ap (λ (a : Answer). moved b (e .seat) (a .state) (turned (y .direction) w)) (sym q))))

@@ -30,6 +30,11 @@ ruled x way m =
     (cond (not (moves (x .role) way m)) (refused 13 (x .state))
     (answerOf (entryOf (x .role) (x .table) way m (x .state)) (x .state)))
 
+-- the number of an event that the tables do not list, as the code finds it: 12, one more where way and message are known, and one
+-- more where the role moves the message that way
+unfoldable pub unlistedNumber : ℕ → ℕ → ℕ → ℕ
+unlistedNumber role way m = 12 + cond (known way m) 1 0 + cond (moves role way m) 1 0
+
 -- the direction that an event asks for, or 0: a Close or Compensate sent at a coordinator seat ..
 unfoldable pub asked : ℕ → ℕ → ℕ → ℕ
 asked role way m = cond (eqb role coordinator && eqb way sent) (askedBy m) 0

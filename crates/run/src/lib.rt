@@ -3,10 +3,12 @@ ghost use mathlib.Core.Path.{_≡_};
 ghost use Prim.Native.Nat.{_+_, _*_, _≤_, _<_};
 ghost use lib.ListN.{length};
 ghost use Rattle.records.specs.Records.{placed, firstEvents};
-ghost use Rattle.book.specs.Layout.{activityCount, seatCount, seatOf, moved, Shaped};
+ghost use Rattle.rules.specs.Rules.{entryOf, answerOf};
+ghost use Rattle.book.specs.Layout.{activityCount, seatCount, activityOf, seatOf, moved, Shaped};
 ghost use Rattle.book.specs.Book.{bookRefusal};
-ghost use Rattle.run.specs.Step.{refused, known, ruled, asked, clashes, outcomeOf, turnedBook, answerTo, bookAfter, answerBytes, answerAt};
+ghost use Rattle.run.specs.Step.{refused, known, unlistedNumber, asked, wanted, clashes, turned, answerTo, bookAfter, answerBytes, answerAt};
 ghost use Rattle.run.specs.Run.{after, filled, runRefusal, runBook, runAnswers};
+use book::Activity;
 use book::Seat;
 use records::Event;
 use rules::Answer;
@@ -42,25 +44,21 @@ fn refuse(number: u8, state: u8) -> Answer
 fn is_known(way: u8, m: u8) -> bool
     ensures { λ r. ⌜ r ≡ known way m ⌝ }
 {
-    if rules::SENT < way {
-        return false;
-    }
-    if m < 1 {
-        return false;
-    }
-    m <= 14
+    (way <= rules::SENT) & (rules::message::CANCEL <= m) & (m <= rules::message::COMPENSATED)
 }
 
-// What the seat's table answers, or refusal 12, 13 or 14.
-fn rule(x: Seat, way: u8, m: u8) -> Answer
-    ensures { λ r. ⌜ r ≡ ruled x way m ⌝ }
+// 12, 13 or 14, for an event that the tables do not list. Which of them it is no processor foresees; they follow each other, so it is
+// a sum and not a jump.
+fn unlisted(role: u8, way: u8, m: u8) -> u8
+    ensures { λ r. ⌜ r ≡ unlistedNumber role way m ⌝ }
 {
-    if !is_known(way, m) {
-        return refuse(REFUSED_EVENT, x.state);
-    }
-    if !rules::moves_message(x.role, way, m) {
-        return refuse(REFUSED_WAY, x.state);
-    }
+    REFUSED_EVENT + is_known(way, m) as u8 + rules::moves_message(role, way, m) as u8
+}
+
+// What the seat's table answers to an event that it lists.
+fn listed(x: Seat, way: u8, m: u8) -> Answer
+    ensures { λ r. ⌜ r ≡ answerOf (entryOf (x .role) (x .table) way m (x .state)) (x .state) ⌝ }
+{
     let entry = rules::entry_at(x.role, x.table, way, m, x.state);
     rules::answer_of(entry, x.state)
 }
@@ -90,34 +88,31 @@ fn clash(direction: u8, want: u8) -> bool
     direction != want
 }
 
-// The answer where an atomic activity is asked for a direction.
-fn outcome(direction: u8, want: u8, state: u8, q: Answer) -> Answer
-    ensures { λ r. ⌜ r ≡ outcomeOf direction want state q ⌝ }
+// The direction that an event asks of its activity, or 0: only an atomic one has any.
+fn want(y: Activity, role: u8, way: u8, m: u8) -> u8
+    ensures { λ r. ⌜ r ≡ wanted (y .kind) role way m ⌝ }
 {
-    if q.refusal != rules::GOOD {
-        return q;
+    if y.kind == book::ATOMIC {
+        return ask(role, way, m);
     }
-    if clash(direction, want) {
-        return refuse(REFUSED_OUTCOME, state);
-    }
-    q
+    rules::DIRECTION_NONE
 }
 
-// A good answer is stored, with the direction that it gives the activity.
-fn turn(book: &mut [u8], n: usize, k: usize, want: u8, r: Answer) -> Answer
+// The seat's state is stored, and the direction that its activity gets.
+fn turn(book: &mut [u8], n: usize, k: usize, state: u8, direction: u8)
     requires { ⌜ Shaped (now book) ⌝ }
     requires { ⌜ n < seatCount (now book) ⌝ }
     requires { ⌜ (k ≡ seatOf (now book) n .activity) × (k < activityCount (now book)) ⌝ }
-    ensures answer { λ a. ⌜ a ≡ r ⌝ }
-    ensures after { λ _. ⌜ now (book .exit) ≡ turnedBook (now (book .entry)) n want r ⌝ }
+    ensures { λ _. ⌜ now (book .exit) ≡ moved (now (book .entry)) n state (turned (activityOf (now (book .entry)) k .direction) direction) ⌝ }
 {
-    if r.refusal == rules::GOOD {
-        book::put_outcome(book, n, k, r.state, want);
+    if direction == rules::DIRECTION_NONE {
+        book::put_state(book, n, state);
+    } else {
+        book::put_outcome(book, n, k, state, direction);
     }
-    r
 }
 
-// One event. A refused one has the state it had, so storing the state asks for no test.
+// One event.
 fn step(book: &mut [u8], e: Event) -> Answer
     requires { ⌜ bookRefusal (now book) ≡ 0 ⌝ }
     ensures answer { λ r. ⌜ r ≡ answerTo (now (book .entry)) e ⌝ }
@@ -128,16 +123,17 @@ fn step(book: &mut [u8], e: Event) -> Answer
         return refuse(REFUSED_NO_SEAT, 0);
     }
     let x = book::read_seat(book, n);
-    let q = rule(x, e.way, e.message);
-    let want = ask(x.role, e.way, e.message);
-    if want != rules::DIRECTION_NONE {
-        let k = x.activity;
-        let y = book::read_activity(book, k);
-        if y.kind == book::ATOMIC {
-            return turn(book, n, k, want, outcome(y.direction, want, x.state, q));
-        }
+    if !rules::is_legal(x.role, x.table, e.way, e.message, x.state) {
+        return refuse(unlisted(x.role, e.way, e.message), x.state);
     }
-    book::put_state(book, n, q.state);
+    let k = x.activity;
+    let y = book::read_activity(book, k);
+    let asks = want(y, x.role, e.way, e.message);
+    if clash(y.direction, asks) {
+        return refuse(REFUSED_OUTCOME, x.state);
+    }
+    let q = listed(x, e.way, e.message);
+    turn(book, n, k, q.state, asks);
     q
 }
 

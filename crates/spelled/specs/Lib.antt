@@ -1,4 +1,3 @@
-pub mod Cuts
 pub mod Numbers
 pub mod Spelled
 pub mod Texts

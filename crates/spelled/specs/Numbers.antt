@@ -14,9 +14,9 @@ use borrow.Author.Tests.{eqb-false, ne-eqb, not-true, leb-true, le-leb}
 use Rattle.lemmas.specs.Bools.{both, both-of}
 use Rattle.lemmas.specs.Orders.{below-or}
 use Rattle.line.specs.Grammar.{isDigit, allDigits, wellBegun, value, isSeat}
+use Rattle.line.specs.Digits.{is-digit, digit-is, value-snoc, digits-snoc}
 use Rattle.text.specs.Text.{digit, decimal}
 use Rattle.text.specs.Laws.{decimal-one, decimal-more}
-use Rattle.spelled.specs.Cuts.{free}
 
 -- the field l says the number n, as the grammar reads a seat
 pub record Says (l : List ℕ) (n : ℕ) : Type 0 where
@@ -24,22 +24,7 @@ pub record Says (l : List ℕ) (n : ℕ) : Type 0 where
   pub each : allDigits l ≡ true
   pub said : value 0 l ≡ n
 
--- a digit is a byte from 48 to 57
-is-digit : (x : ℕ) → 48 ≤ x → x ≤ 57 → isDigit x ≡ true
-is-digit x p q = both-of (le-leb 48 x p) (le-leb x 57 q)
-
-digit-is : (x : ℕ) → isDigit x ≡ true → (48 ≤ x) × (x ≤ 57)
-digit-is x h = let w = both (leb 48 x) (leb x 57) h in (leb-true 48 x (w .0), leb-true x 57 (w .1))
-
--- a last digit more: what it does to the value, to the digits and to the beginning
-value-snoc : (n : ℕ) (l : List ℕ) (x : ℕ) → value n (l ++ (x ∷ [])) ≡ value n l * 10 + (x - 48)
-value-snoc n [] x = refl
-value-snoc n (y ∷ l) x = value-snoc (n * 10 + (y - 48)) l x
-
-digits-snoc : (l : List ℕ) (x : ℕ) → allDigits l ≡ true → isDigit x ≡ true → allDigits (l ++ (x ∷ [])) ≡ true
-digits-snoc [] x h k = both-of k refl
-digits-snoc (y ∷ l) x h k = let w = both (isDigit y) (allDigits l) h in both-of (w .0) (digits-snoc l x (w .1) k)
-
+-- a last digit more leaves the beginning
 begun-snoc : (l : List ℕ) (x : ℕ) → wellBegun l ≡ true → 1 ≤ value 0 l → wellBegun (l ++ (x ∷ [])) ≡ true
 begun-snoc [] x h p = absurd (false≢true h)
 begun-snoc (y ∷ []) x h p = ap not (ne-eqb y 48 (λ e. omega arith))
@@ -129,11 +114,3 @@ seat-only l h =
     let w = both (wellBegun l) (allDigits l && leb (value 0 l) 65535) h in
     let v = both (allDigits l) (leb (value 0 l) 65535) (w .1) in
     says-decimal l (value 0 l) (record { begun = w .0; each = v .0; said = refl }) (omega (arith, leb-true (value 0 l) 65535 (v .1)))
-
--- digits have no byte below 48
-pub digits-free : (b : ℕ) (l : List ℕ) → b < 48 → allDigits l ≡ true → free b l ≡ true
-digits-free b [] p h = refl
-digits-free b (x ∷ l) p h =
-    let w = both (isDigit x) (allDigits l) h in
-    let d = digit-is x (w .0) in
-    both-of (ap not (ne-eqb x b (λ e. omega arith))) (digits-free b l p (w .1))

@@ -20,9 +20,9 @@ check-spec =
     (λ c κs. shaped _ (sym (c .before .head-good .ensures) ∙ not-false _ (c .if2 .left)))
     (λ c.
     simp (le-ltb _ _ (c .before .before .before .before .if1 .left), sym (c .before .before .before .head-good .ensures) ∙ not-false _ (c .before .before .if2 .left), sym (c .before .activities-good .ensures) ∙ not-true _ (c .if3 .taken)))
-    (λ c κs. (shaped _ (sym (c .before .before .before .head-good .ensures) ∙ not-false _ (c .before .before .if2 .left)), sym (c .before .activities-good .ensures) ∙ not-false _ (c .if3 .left)))
+    (λ c κs. shaped _ (sym (c .before .before .before .head-good .ensures) ∙ not-false _ (c .before .before .if2 .left)))
     (λ c.
-    let f = fit-seats _ (sym (c .before .seats-fit .ensures) ∙ c .if4 .taken) in
+    let f = fit-seats _ (sym (c .before .all-fit .ensures) ∙ c .if4 .taken) in
     simp (le-ltb _ _ (c .before .before .before .before .before .before .if1 .left), sym (c .before .before .before .before .before .head-good .ensures) ∙ not-false _ (c .before .before .before .before .if2 .left), sym (c .before .before .before .activities-good .ensures) ∙ not-false _ (c .before .before .if3 .left), f .0, f .1))
     (λ c κs. shaped _ (sym (c .before .before .before .before .before .head-good .ensures) ∙ not-false _ (c .before .before .before .before .if2 .left)))
     (λ c.
@@ -39,5 +39,5 @@ check-spec =
       sym (c .before .before .before .before .before .before .before .head-good .ensures) ∙ not-false _ (c .before .before .before .before .before .before .if2 .left),
       sym (c .before .before .before .before .before .activities-good .ensures) ∙ not-false _ (c .before .before .before .before .if3 .left),
       s,
-      unfit-direction _ (sym (c .before .before .before .seats-fit .ensures) ∙ c .before .before .if4 .left) s,
+      unfit-direction _ (sym (c .before .before .before .all-fit .ensures) ∙ c .before .before .if4 .left) s,
     )))

@@ -7,7 +7,7 @@ use Rattle.book.proofs.read_seat.Tie as tie
 
 returns : tie.Need-returns
 unfolding seatOf
-returns c = simp (c .before .before .before .wide .ensures, c .before .before .before .before .before .u16-at .ensures .0)
+returns c = (simp (c .before .before .before .wide .ensures .0, c .before .before .before .before .before .u16-at .ensures .0), c .before .before .before .wide .ensures .1)
 
 pub read-seat-spec : {M : Type 1} → statement M
 read-seat-spec =

@@ -9,7 +9,7 @@ use Rattle.book.proofs.seat_good_at.Statement.{statement}
 use Rattle.book.proofs.seat_good_at.Tie as tie
 
 returns : tie.Need-returns
-returns c = c .seat-good .ensures ∙ ap (λ (p : ℕ × Seat). seatGood (p .0) (p .1)) (λ j. (c .before .before .activity-count .ensures .0 j, c .before .read-seat .ensures j))
+returns c = c .seat-good .ensures ∙ ap (λ (p : ℕ × Seat). seatGood (p .0) (p .1)) (λ j. (c .before .before .activity-count .ensures .0 j, c .before .read-seat .ensures .0 j))
 
 pub seat-good-at-spec : {M : Type 1} → statement M
 seat-good-at-spec =

@@ -19,4 +19,4 @@ put-seat-spec =
     (λ c κs. search needs)
     (λ c κs. search needs)
     (λ c. search needs)
-    (λ c. (put-seat (now (c .before .before .before .before .before .before .before .before .before .before .before .before .before .args .book)) (c .before .before .before .before .before .before .before .before .before .before .before .before .before .args .n) _ (c .before .before .before .wide .ensures .0 ∙ ap (λ (x : Seat). x .state) (c .before .before .before .before .before .before .before .before .before .before .read-seat .ensures)) (c .before .before .before .before .before .before .before .put-term .ensures .0) (c .before .before .put-field .ensures .0), omega arith)))
+    (λ c. (put-seat (now (c .before .before .before .before .before .before .before .before .before .before .before .before .before .args .book)) (c .before .before .before .before .before .before .before .before .before .before .before .before .before .args .n) _ (c .before .before .before .wide .ensures .0 ∙ ap (λ (x : Seat). x .state) (c .before .before .before .before .before .before .before .before .before .before .read-seat .ensures .0)) (c .before .before .before .before .before .before .before .put-term .ensures .0) (c .before .before .put-field .ensures .0), omega arith)))

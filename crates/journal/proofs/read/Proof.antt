@@ -1,13 +1,11 @@
--- `journal::read` meets its contract: a text that is too long is refused; else the records of the lines are copied out, and of a
--- refusal there are none.
+-- `journal::read` meets its contract: a text that is too long is refused; for any other there is room aside for its events.
 -- Assumes nothing.
+use Prim.Native.Nat.{ℕ}
 use native.Mathlib.Omega.{arith}
-use mathlib.Core.Path.{refl, sym, _∙_}
-use lib.ListN.{length-take}
-use lib.Seq.{length-take-le}
+use lib.ListN.{length-replicate}
 use denote.Ref.{now}
 use borrow.Author.Needs.{needs}
-use Rattle.journal.proofs.Keeping.{read-none, read-value, copied-out}
+use Rattle.journal.proofs.Keeping.{read-none}
 use Rattle.journal.proofs.read.Statement.{statement}
 use Rattle.journal.proofs.read.Tie as tie
 
@@ -16,21 +14,11 @@ returns c =
     let a = c .before .before .before .args in
     read-none (now (a .text)) (now (a .area)) (c .if1 .taken)
 
-slice-aggregate-copy : tie.Need-slice-aggregate-copy
-slice-aggregate-copy c = let e = c .before .before .before .read-lines .ensures in sym (length-take-le _ (c .before .before .before .read-lines .last .1 .1 .0) (omega (arith, e .within)))
+read-aside-requires : tie.Need-read-aside-requires
+read-aside-requires c κs = (omega arith, (omega (arith, length-replicate {A = ℕ} 1024 0), c .before .before .before .before .aids .ensures))
 
-copy-requires : tie.Need-copy-requires
-copy-requires c κs =
-    let e = c .before .before .before .before .read-lines .ensures in
-    simp length-take (omega (arith, e .fits))
-
-returns-2 : tie.Need-returns-2
-returns-2 c =
-    let a = c .before .before .before .before .before .before .before .before .before .before .before .before .before .args in
-    let r = c .before .before .before .before .before .before .before .read-lines in (
-      read-value (now (a .text)) (now (a .area)) (c .before .before .before .before .before .before .before .before .before .before .if1 .left) _ (r .result) (r .ensures),
-      c .before .before .copy .ensures .1 ∙ copied-out (now (a .text)) (now (a .area)) (c .before .before .before .before .before .before .before .before .before .before .if1 .left) _ (r .result) (r .ensures) _ refl,
-    )
+read-aside-requires-2 : tie.Need-read-aside-requires-2
+read-aside-requires-2 c κs = (omega arith, (omega (arith, length-replicate {A = ℕ} 16384 0), c .before .before .before .before .aids .ensures))
 
 pub read-spec : {M : Type 1} → statement M
 read-spec =
@@ -39,10 +27,12 @@ read-spec =
     returns
     (λ c κs. search needs)
     (λ c. search needs)
-    (λ c κs. search needs)
+    (λ c. search needs)
+    read-aside-requires
     (λ c. search needs)
     (λ c. search needs)
-    slice-aggregate-copy
-    copy-requires
     (λ c. search needs)
-    returns-2)
+    (λ c. search needs)
+    read-aside-requires-2
+    (λ c. search needs)
+    (λ c. search needs))
