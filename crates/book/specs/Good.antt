@@ -3,13 +3,13 @@
 -- activity that were written by what is asked below, and elsewhere because nothing changed there.
 -- Assumes nothing.
 use mathlib.Core.Path.{_≡_, refl, sym, ap, _∙_}
-use mathlib.Core.Bool.{Bool, true, false, cond, not}
+use mathlib.Core.Bool.{Bool, true, false, cond, not, _&&_}
 use mathlib.Core.Logic.{⊎-elim}
 use mathlib.Core.List.{List}
 use Prim.Native.Nat.{ℕ, _≤_, _<_}
 use native.Mathlib.Omega.{arith}
 use lib.ListN.{length}
-use lib.Dec.{ltb}
+use lib.Dec.{leb, ltb, eqb}
 use borrow.Author.Tests.{le-ltb, ltb-true, ltb-false, eqb-true, leb-true, le-leb, eq-eqb}
 use Rattle.lemmas.specs.Bools.{both, both-of}
 use Rattle.lemmas.specs.Orders.{same-or}
@@ -18,7 +18,7 @@ use Rattle.rules.specs.Rules.{hasState}
 use Rattle.book.specs.declared.Activity.{Activity}
 use Rattle.book.specs.declared.Seat.{Seat}
 use Rattle.book.specs.Layout.{activityCount, seatCount, activityOf, seatOf, headSize, withState, moved, Shaped}
-use Rattle.book.specs.Book.{numbersGood, headGood, activityGood, activityGoodAt, activitiesGood, seatGood, seatGoodAt, seatsGood, agrees, agreesAt, directionsGood, bookRefusal}
+use Rattle.book.specs.Book.{atomic, mixed, numbersGood, headGood, activityGood, activityGoodAt, activitiesGood, seatGood, seatGoodAt, seatsGood, agrees, agreesAt, directionsGood, bookRefusal}
 use Rattle.book.specs.Lens.{moved-shaped, moved-activities, moved-seats, moved-seat, moved-other, moved-activity, moved-neighbour}
 
 -- a good header says how long the book is
@@ -82,6 +82,18 @@ good-of b e =
 pub good-to : (b : List ℕ) → Good b → bookRefusal b ≡ 0
 unfolding bookRefusal
 good-to b g = simp (le-ltb _ _ (g .long), g .head, g .activities, g .seats, g .directions)
+
+-- a direction is one of three
+pub direction-most : (kind d : ℕ) → activityGood kind d ≡ true → d ≤ 2
+unfolding activityGood
+direction-most kind d h = at (eqb kind atomic) h where
+  at : (t : Bool) → cond t (leb d 2) (eqb kind mixed && eqb d 0) ≡ true → d ≤ 2
+  at true k = leb-true d 2 k
+  at false k = let z : d ≡ 0 = eqb-true d 0 (both (eqb kind mixed) (eqb d 0) k .1) in omega arith
+
+pub lot-direction : (b : List ℕ) (k : ℕ) → activitiesGood b ≡ true → k < activityCount b → activityOf b k .direction ≤ 2
+unfolding activitiesGood
+lot-direction b k h l = direction-most _ _ (every-at (activityGoodAt b) (activityCount b) k h l)
 
 abbrev sees : Activity → Seat → Bool
 sees y x = agrees (y .kind) (y .direction) (x .role) (x .state)

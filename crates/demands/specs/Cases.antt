@@ -8,7 +8,7 @@ use Rattle.records.specs.Records.{at16}
 use Rattle.rules.specs.declared.Answer.{Answer}
 use Rattle.rules.specs.Numbers.{received, sent, close, compensate, fail, closed}
 use Rattle.rules.specs.Tables.{coordinatorReceives, coordinatorSends, participantReceives, participantSends}
-use Rattle.rules.specs.Rules.{hasState, lastState, sends, receives, moves, entryOf, answer}
+use Rattle.rules.specs.Rules.{hasState, lastState, sends, receives, moves, lineOf, entryOf, answer}
 use Rattle.rules.specs.Outcome.{askedBy}
 use Rattle.rules.specs.Cases.{marked, answered}
 use Rattle.book.specs.Layout.{activityOf, seatOf, putState, putDirection}
@@ -43,11 +43,11 @@ examplePrints =
     ∷ []
 
 pub all-hold : map answered marked ++ answers exampleBook exampleEvents ≡ map (λ c. c .gives) marked ++ examplePrints
-unfolding entryOf hasState lastState coordinatorReceives coordinatorSends participantReceives participantSends at16 activityOf seatOf putState putDirection known ruled asked wanted clashes turned judged answerTo bookAfter moves sends receives askedBy outcomeOf turnedBook
+unfolding entryOf lineOf hasState lastState coordinatorReceives coordinatorSends participantReceives participantSends at16 activityOf seatOf putState putDirection known ruled asked wanted clashes turned judged answerTo bookAfter moves sends receives askedBy outcomeOf turnedBook
 all-hold = refl
 
 -- the seats end in 6 and 12, and the activity is directed to close
 pub example-ends : after exampleBook exampleEvents
     ≡ 1 ∷ 0 ∷ 2 ∷ 0 ∷ 8 ∷ 0 ∷ 10 ∷ 0 ∷ 1 ∷ 1 ∷ 0 ∷ 1 ∷ 2 ∷ 6 ∷ 0 ∷ 1 ∷ 2 ∷ 12 ∷ []
-unfolding entryOf hasState lastState coordinatorReceives coordinatorSends participantReceives participantSends at16 activityOf seatOf putState putDirection known ruled asked wanted clashes turned judged answerTo bookAfter moves sends receives askedBy outcomeOf turnedBook
+unfolding entryOf lineOf hasState lastState coordinatorReceives coordinatorSends participantReceives participantSends at16 activityOf seatOf putState putDirection known ruled asked wanted clashes turned judged answerTo bookAfter moves sends receives askedBy outcomeOf turnedBook
 example-ends = refl

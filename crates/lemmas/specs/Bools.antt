@@ -1,9 +1,12 @@
 -- Facts on Bools that library modules lack.
 -- Assumes nothing.
 use mathlib.Core.Path.{_≡_, refl}
-use mathlib.Core.Bool.{Bool, true, false, not, _&&_, _||_, false≢true}
+use mathlib.Core.Bool.{Bool, true, false, not, cond, _&&_, _||_, false≢true}
 use mathlib.Core.Logic.{_⊎_, inl, inr}
+use Prim.Native.Nat.{ℕ, _≤_}
+use native.Mathlib.Omega.{arith}
 use lib.Dec.{T}
+use mir.Val.{boolByte}
 
 pub both : (a b : Bool) → (a && b) ≡ true → (a ≡ true) × (b ≡ true)
 both true b h = (refl, h)
@@ -44,3 +47,12 @@ same-is false false t = refl
 pub never-true : (a : Bool) → (a ≡ true → ⊥) → a ≡ false
 never-true true n = absurd (n refl)
 never-true false n = refl
+
+-- a Bool as a number
+pub as-number : (t : Bool) → boolByte t ≡ cond t 1 0
+as-number true = refl
+as-number false = refl
+
+pub at-most-one : (t : Bool) → boolByte t ≤ 1
+at-most-one true = omega arith
+at-most-one false = omega arith

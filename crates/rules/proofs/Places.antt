@@ -9,7 +9,8 @@ use native.Mathlib.Omega.{arith}
 use lib.Dec.{T, eqb, eqb→eq}
 use Rattle.lemmas.specs.Orders.{below-or}
 use Rattle.lemmas.specs.Ranges.{each, each-at}
-use Rattle.rules.specs.Marks.{Ranged, placeOf}
+use Rattle.rules.specs.Place.{placeOf}
+use Rattle.rules.specs.Marks.{Ranged, place-counted}
 
 module _ (x role table s : ℕ) (r : role < 256) (t : table < 256) (l : s < 256) (w : (x + 257) % 18446744073709551616 ≡ role + 256 * table + 65536 * s) where
   pub place-in : x % 256 ≤ 1 → x / 256 % 256 ≤ 1 → x < 1048576 → Ranged role table s × (x ≡ (role - 1) + 256 * (table - 1) + 65536 * s)
@@ -38,3 +39,4 @@ place-is x role table s i e =
     (each-at (λ r. each (λ t. each (λ s. eqb ((r + 256 * t + 65536 * s) * 0x201001 / 65536 % 64) (32 * r + 16 * t + s)) 0 16) 0 2) 2 0 spread (role - 1) (omega arith) (omega arith))
     (table - 1) (omega arith) (omega arith))
     s (omega arith) (omega arith))
+    ∙ sym (place-counted role table s i)

@@ -6,7 +6,7 @@ use Prim.Native.Nat.{ℕ}
 use Rattle.rules.specs.declared.Answer.{Answer}
 use Rattle.rules.specs.Numbers.{received, coordinator, participant, plain, split, complete, close, compensate, exited, exit, completed, fail, closed}
 use Rattle.rules.specs.Tables.{coordinatorReceives, coordinatorSends, participantReceives, participantSends}
-use Rattle.rules.specs.Rules.{hasState, lastState, entryOf, answerOf, answer}
+use Rattle.rules.specs.Rules.{hasState, lastState, lineOf, entryOf, answerOf, answer}
 
 -- a role, a table and a state, the message that the seat got, and the answer that is to come: refusal, state, action, reply
 pub record Case : Type 0 where
@@ -36,5 +36,5 @@ abbrev pub answered : Case → Answer
 answered c = answerOf (entryOf (c .role) (c .table) received (c .got) (c .state)) (c .state)
 
 pub marked-hold : map answered marked ≡ map (λ c. c .gives) marked
-unfolding entryOf hasState lastState coordinatorReceives coordinatorSends participantReceives participantSends
+unfolding entryOf lineOf hasState lastState coordinatorReceives coordinatorSends participantReceives participantSends
 marked-hold = refl

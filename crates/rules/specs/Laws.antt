@@ -2,7 +2,7 @@
 -- The argument: a legal entry has its role, table, way, message and state in range (`Within`), and what is to be shown of it is a
 -- test that antt computes at each of the 1,680 places in range.
 -- Assumes nothing.
-use mathlib.Core.Path.{_≡_, refl}
+use mathlib.Core.Path.{_≡_, refl, subst}
 use mathlib.Core.Bool.{Bool, true, false, not, cond, _&&_, _||_, false≢true, true≢false}
 use mathlib.Core.Logic.{_⊎_, inl, inr, ⊎-elim}
 use mathlib.Core.List.{List, [], _∷_}
@@ -16,7 +16,7 @@ use Rattle.rules.specs.declared.Entry.{Entry}
 use Rattle.rules.specs.declared.Entry.the-variants.{Invalid, Ignore, Move, Forget, Reply}
 use Rattle.rules.specs.Numbers.{received, sent, coordinator, participant, plain, split}
 use Rattle.rules.specs.Tables.{Line, P, S, B, speaks, look, oneOf, asSent, coordinatorReceives, coordinatorSends, participantReceives, participantSends, coordinatorReceivesLines, coordinatorSendsLines, participantReceivesLines, participantSendsLines}
-use Rattle.rules.specs.Rules.{lastState, hasState, sends, receives, moves, entryOf, answerOf, legal}
+use Rattle.rules.specs.Rules.{lastState, hasState, sends, receives, moves, lineOf, entryOf, answerOf, legal}
 use Rattle.rules.specs.Outcome.{neededBy, askedBy}
 
 -- what a role and a table that have a state are
@@ -100,13 +100,6 @@ moves-in role way m h =
     record { role-low = r .0; role-high = r .1; way-high = omega arith; low = q .1; high = q .2 })
     (either (eqb way sent && sends role m) (eqb way received && receives role m) h)
 
--- a legal entry's place in the tables
-pub record Within (role table way m s : ℕ) : Type 0 where
-  pub has : HasState role table s
-  pub way-high : way ≤ 1
-  pub low : 1 ≤ m
-  pub high : m ≤ 14
-
 -- every line is of a message from 1 to 14, so what is found is
 abbrev ofPaper : Line → Bool
 ofPaper (P k ss e) = leb 1 k && leb k 14
@@ -143,11 +136,17 @@ sent-legal s (Move next) h = refl
 sent-legal s (Forget next) h = refl
 sent-legal s (Reply m) h = refl
 
-pub within : (role table way m s : ℕ) → legal (entryOf role table way m s) ≡ true → Within role table way m s
-unfolding entryOf coordinatorReceives coordinatorSends participantReceives participantSends
-within role table way m s h = at (hasState role table s) refl (eqb way received) refl (eqb way sent) refl (eqb role coordinator) refl where
-  placed : hasState role table s ≡ true → way ≤ 1 → (1 ≤ m) × (m ≤ 14) → Within role table way m s
-  placed e w p = record { has = has-state role table s e; way-high = w; low = p .0; high = p .1 }
+-- what the lines list is one of the outline's messages, and so is its way
+pub record Known (way m : ℕ) : Type 0 where
+  pub way-high : way ≤ 1
+  pub low : 1 ≤ m
+  pub high : m ≤ 14
+
+pub line-known : (role table way m s : ℕ) → legal (lineOf role table way m s) ≡ true → Known way m
+unfolding lineOf coordinatorReceives coordinatorSends participantReceives participantSends
+line-known role table way m s h = at (eqb way received) refl (eqb way sent) refl (eqb role coordinator) refl where
+  placed : way ≤ 1 → (1 ≤ m) × (m ≤ 14) → Known way m
+  placed w p = record { way-high = w; low = p .0; high = p .1 }
 
   or-zero : eqb way received ≡ true → way ≤ 1
   or-zero f = let z : way ≡ 0 = eqb-true way 0 f in omega arith
@@ -155,19 +154,40 @@ within role table way m s h = at (hasState role table s) refl (eqb way received)
   or-one : eqb way sent ≡ true → way ≤ 1
   or-one f = let z : way ≡ 1 = eqb-true way 1 f in omega arith
 
-  at : (t : Bool) → hasState role table s ≡ t → (u : Bool) → eqb way received ≡ u → (v : Bool) → eqb way sent ≡ v → (w : Bool) → eqb role coordinator ≡ w → Within role table way m s
-  at false e u f v g w k = absurd (false≢true (simp e at h))
-  at true e true f v g true k =
-      placed e (or-zero f) (looked coordinatorReceivesLines (eqb table split) m s refl (simp (e, f, k) at h))
-  at true e true f v g false k =
-      placed e (or-zero f) (looked participantReceivesLines (eqb table split) m s refl (simp (e, f, k) at h))
-  at true e false f true g true k =
-      placed e (or-one g) (looked coordinatorSendsLines (eqb table split) m s refl
-      (sent-legal s (look coordinatorSendsLines (eqb table split) m s) (simp (e, f, g, k) at h)))
-  at true e false f true g false k =
-      placed e (or-one g) (looked participantSendsLines (eqb table split) m s refl
-      (sent-legal s (look participantSendsLines (eqb table split) m s) (simp (e, f, g, k) at h)))
-  at true e false f false g w k = absurd (false≢true (simp (e, f, g) at h))
+  at : (u : Bool) → eqb way received ≡ u → (v : Bool) → eqb way sent ≡ v → (w : Bool) → eqb role coordinator ≡ w → Known way m
+  at true f v g true k =
+      placed (or-zero f) (looked coordinatorReceivesLines (eqb table split) m s refl (simp (f, k) at h))
+  at true f v g false k =
+      placed (or-zero f) (looked participantReceivesLines (eqb table split) m s refl (simp (f, k) at h))
+  at false f true g true k =
+      placed (or-one g) (looked coordinatorSendsLines (eqb table split) m s refl
+      (sent-legal s (look coordinatorSendsLines (eqb table split) m s) (simp (f, g, k) at h)))
+  at false f true g false k =
+      placed (or-one g) (looked participantSendsLines (eqb table split) m s refl
+      (sent-legal s (look participantSendsLines (eqb table split) m s) (simp (f, g, k) at h)))
+  at false f false g w k = absurd (false≢true (simp (f, g) at h))
+
+pub entry-line : (role table way m s : ℕ) → hasState role table s ≡ true → entryOf role table way m s ≡ lineOf role table way m s
+unfolding entryOf
+entry-line role table way m s e = simp e
+
+-- a pair that the tables list is in a state that the role has
+pub legal-state : (role table way m s : ℕ) → legal (entryOf role table way m s) ≡ true → hasState role table s ≡ true
+unfolding entryOf
+legal-state role table way m s h = at (hasState role table s) refl where
+  at : (t : Bool) → hasState role table s ≡ t → t ≡ true
+  at true e = refl
+  at false e = absurd (false≢true (simp e at h))
+
+-- a legal entry's place in the tables
+pub record Within (role table way m s : ℕ) : Type 0 where
+  pub has : HasState role table s
+  pub known : Known way m
+
+pub within : (role table way m s : ℕ) → legal (entryOf role table way m s) ≡ true → Within role table way m s
+within role table way m s h =
+    let e = legal-state role table way m s h in
+    record { has = has-state role table s e; known = line-known role table way m s (subst (λ (x : Entry). legal x ≡ true) (entry-line role table way m s e) h) }
 
 -- what is shown of every entry: it moves a message of its role, to a state that the role has under that table; a reply is a
 -- message that the role sends; and a coordinator's next state needs no direction, or the one that its state needs or its message asks for
@@ -192,7 +212,7 @@ unfoldable sound : ℕ → ℕ → ℕ → ℕ → ℕ → Bool
 sound role table way m s = soundEntry role table way m s (entryOf role table way m s)
 
 all-sound : T (each (λ r. each (λ t. each (λ w. each (λ m. each (λ s. sound r t w m s) 1 15) 1 14) 0 2) 1 2) 1 2)
-unfolding sound entryOf hasState lastState moves sends receives coordinatorReceives coordinatorSends participantReceives participantSends neededBy askedBy
+unfolding sound entryOf lineOf hasState lastState moves sends receives coordinatorReceives coordinatorSends participantReceives participantSends neededBy askedBy
 all-sound = tt
 
 sound-at : (role table way m s : ℕ) → Within role table way m s → sound role table way m s ≡ true
@@ -205,8 +225,8 @@ sound-at role table way m s i =
     (each-at (λ r. each (λ t. each (λ w. each (λ m. each (λ s. sound r t w m s) 1 15) 1 14) 0 2) 1 2) 2 1 all-sound
     role (i .has .role-low) (omega arith))
     table (i .has .table-low) (omega arith))
-    way (omega arith) (omega arith))
-    m (i .low) (omega arith))
+    way (omega (arith, i .known .way-high)) (omega (arith, i .known .way-high)))
+    m (i .known .low) (omega (arith, i .known .high)))
     s (i .has .low) (omega arith))
 
 -- the direction that a coordinator's next state needs
@@ -275,15 +295,7 @@ legal-good (Move next) s h = refl
 legal-good (Forget next) s h = refl
 legal-good (Reply m) s h = refl
 
--- a pair that the tables list is in a state that the role has
-pub legal-state : (role table way m s : ℕ) → legal (entryOf role table way m s) ≡ true → hasState role table s ≡ true
-unfolding entryOf
-legal-state role table way m s h = at (hasState role table s) refl where
-  at : (t : Bool) → hasState role table s ≡ t → t ≡ true
-  at true e = refl
-  at false e = absurd (false≢true (simp e at h))
-
--- a pair that they list is answered, and one that they do not list is Invalid
+-- a pair that the tables list is answered, and one that they do not list is Invalid
 pub legal-answered : (e : Entry) (s : ℕ) → legal e ≡ true → answerOf e s .refusal ≡ 0
 legal-answered Invalid s h = absurd (false≢true h)
 legal-answered Ignore s h = refl

@@ -4,6 +4,8 @@ pub mod Parts
 pub mod Rules
 pub mod Outcome
 pub mod Laws
+pub mod Place
 pub mod Marks
+pub mod Rows
 pub mod Cases
 pub mod Single

@@ -11,19 +11,15 @@ use lib.ListN.{getD}
 use borrow.Author.Tests.{leb-true, le-leb, eqb-true, eqb-false, ne-eqb}
 use Rattle.lemmas.specs.Bools.{both, both-of, same, same-is, never-true}
 use Rattle.lemmas.specs.Ranges.{each, each-at}
-use Rattle.rules.specs.declared.Entry.{Entry}
 use Rattle.rules.specs.Numbers.{coordinator, participant, plain, split, sent, received}
-use Rattle.rules.specs.Tables.{coordinatorReceives, coordinatorSends, participantReceives, participantSends}
-use Rattle.rules.specs.Rules.{lastState, hasState, entryOf, legal}
+use Rattle.rules.specs.Rules.{lastState, hasState}
 use Rattle.rules.specs.Outcome.{neededBy, suits}
-use Rattle.rules.specs.Laws.{HasState, has-state, Within, within}
+use Rattle.rules.specs.Laws.{HasState, has-state}
+use Rattle.rules.specs.Place.{placeOf}
 
 -- a role 1 or 2, a table 1 or 2, a state up to 15
 unfoldable pub inRange : ℕ → ℕ → ℕ → Bool
 inRange role table s = leb 1 role && leb role 2 && leb 1 table && leb table 2 && leb s 15
-
-abbrev pub placeOf : ℕ → ℕ → ℕ → ℕ
-placeOf role table s = 32 * (role - 1) + 16 * (table - 1) + s
 
 unfoldable pub markedIn : ℕ → ℕ → ℕ → ℕ → Bool
 markedIn marks role table s = inRange role table s && eqb (marks / 2 ^ placeOf role table s % 2) 1
@@ -66,6 +62,15 @@ pub marked-place : (marks role table s : ℕ) → Ranged role table s → marked
 unfolding markedIn
 marked-place marks role table s r = simp (in-range r)
 
+once-round : (x : ℕ) → x < 64 → (x + 64) % 64 ≡ x
+once-round x h = omega arith
+
+-- a place counts from the first role and the first table
+pub place-counted : (role table s : ℕ) → Ranged role table s → placeOf role table s ≡ 32 * (role - 1) + 16 * (table - 1) + s
+place-counted role table s i =
+    let e : 32 * role + 16 * table + s + 16 ≡ 32 * (role - 1) + 16 * (table - 1) + s + 64 = omega (arith, i .role-low, i .table-low) in
+    ap (λ (n : ℕ). n % 64) e ∙ once-round (32 * (role - 1) + 16 * (table - 1) + s) (omega (arith, i .role-high, i .table-high, i .high))
+
 -- marks are a rule of roles, tables and states
 module _ (marks : ℕ) (rule : ℕ → ℕ → ℕ → Bool) where
   abbrev at : ℕ → ℕ → ℕ → Bool
@@ -82,6 +87,7 @@ module _ (marks : ℕ) (rule : ℕ → ℕ → ℕ → Bool) where
         let r : (role - 1) + 1 ≡ role = omega arith in
         let t : (table - 1) + 1 ≡ table = omega arith in
         marked-place marks role table s i
+        ∙ ap (λ (k : ℕ). eqb (marks / 2 ^ k % 2) 1) (place-counted role table s i)
         ∙ same-is _ _
         (each-at (λ s. at (role - 1) (table - 1) s) 16 0
         (each-at (λ t. each (λ s. at (role - 1) t s) 0 16) 2 0
@@ -144,51 +150,3 @@ suiting-marked direction role table s = at (eqb direction 1) refl (eqb direction
   at true e u f = rw e (marks-are 0xfff61ff6fd7e1d7e (mayHave 1) tt (suiting-range 1) role table s ∙ ap (λ (d : ℕ). mayHave d role table s) (sym (eqb-true direction 1 e)))
   at false e true f = rw (e, f) (marks-are 0xfff61ff6ffbe1fbe (mayHave 2) tt (suiting-range 2) role table s ∙ ap (λ (d : ℕ). mayHave d role table s) (sym (eqb-true direction 2 f)))
   at false e false f = rw (e, f) (marks-are 0xfff61ff6fd3e1d3e (mayHave 0) tt (suiting-range 0) role table s ∙ ap (λ (b : Bool). hasState role table s && (not (eqb role coordinator) || b)) (undirected direction s e f))
-
--- the roles, tables and states in which a message is legal: row 16 way + message, and row 15 for what is no message
-abbrev pub legalRows : List ℕ
-legalRows =
-    0x0 ∷ 0xfff61ff600000000 ∷ 0xfff61ff600000000 ∷ 0xf060106000000000 ∷ 0xf2a012a000000000 ∷ 0xf300130000000000
-    ∷ 0xf800180000000000 ∷ 0xf400140000000000 ∷ 0xf81e181e ∷ 0xf2f812f8 ∷ 0xf39e139e ∷ 0xf41e141e
-    ∷ 0xf00c100c ∷ 0xf0401040 ∷ 0xf0801080 ∷ 0x0 ∷ 0x0 ∷ 0x1e001e
-    ∷ 0x120012 ∷ 0x600060 ∷ 0xa000a0 ∷ 0x23001300 ∷ 0x48001800 ∷ 0x84001400
-    ∷ 0x812081200000000 ∷ 0x30003000000000 ∷ 0x396039600000000 ∷ 0x412041200000000 ∷ 0x2004100400000000 ∷ 0x4040104000000000
-    ∷ 0x8080108000000000 ∷ []
-
-abbrev pub rowOf : ℕ → ℕ → ℕ
-rowOf way m = cond (leb way 1 && leb 1 m && leb m 14) (m + 16 * way) 15
-
-abbrev pub legalMarks : ℕ → ℕ → ℕ
-legalMarks way m = getD legalRows (rowOf way m) 0
-
-abbrev listed : ℕ → ℕ → ℕ → ℕ → ℕ → Bool
-listed way m role table s = legal (entryOf role table way m s)
-
-listed-range : (way m role table s : ℕ) → listed way m role table s ≡ true → Ranged role table s
-listed-range way m role table s h =
-    let i = within role table way m s h .has in
-    record { role-low = i .role-low; role-high = i .role-high; table-low = i .table-low; table-high = i .table-high; high = i .high }
-
-rows-are : T (each (λ way. each (λ m. marksAre (getD legalRows (m + 16 * way) 0) (listed way m)) 0 15) 0 2)
-unfolding entryOf hasState lastState coordinatorReceives coordinatorSends participantReceives participantSends
-rows-are = tt
-
-pub legal-marked : (way m role table s : ℕ) → markedIn (legalMarks way m) role table s ≡ legal (entryOf role table way m s)
-legal-marked way m role table s = at (leb way 1 && leb 1 m && leb m 14) refl where
-  at : (t : Bool) → (leb way 1 && leb 1 m && leb m 14) ≡ t → markedIn (legalMarks way m) role table s ≡ listed way m role table s
-  at true e =
-      let p = both (leb way 1 && leb 1 m) (leb m 14) e in
-      let w : way ≤ 1 = leb-true way 1 (both (leb way 1) (leb 1 m) (p .0) .0) in
-      let k : m ≤ 14 = leb-true m 14 (p .1) in
-      rw e
-      (marks-are (getD legalRows (m + 16 * way) 0) (listed way m)
-      (each-at (λ m. marksAre (getD legalRows (m + 16 * way) 0) (listed way m)) 15 0
-      (each-at (λ way. each (λ m. marksAre (getD legalRows (m + 16 * way) 0) (listed way m)) 0 15) 2 0 rows-are way (omega arith) (omega arith))
-      m (omega arith) (omega arith))
-      (listed-range way m) role table s)
-  at false e =
-      rw e
-      (none-marked role table s
-      ∙ sym (never-true _ (λ h.
-      let i = within role table way m s h in
-      false≢true (sym e ∙ both-of (both-of (le-leb way 1 (i .way-high)) (le-leb 1 m (i .low))) (le-leb m 14 (i .high))))))

@@ -31,16 +31,18 @@ receives role m =
 unfoldable pub moves : ℕ → ℕ → ℕ → Bool
 moves role way m = (eqb way sent && sends role m) || (eqb way received && receives role m)
 
--- the table's entry; Invalid in a state that the role or the table doesn't have, "ended" or not
-unfoldable pub entryOf : ℕ → ℕ → ℕ → ℕ → ℕ → Entry
-entryOf role table way m s =
-    cond (hasState role table s)
-    (cond (eqb way received)
+-- what the lines of a role's table say of a message that goes that way
+unfoldable pub lineOf : ℕ → ℕ → ℕ → ℕ → ℕ → Entry
+lineOf role table way m s =
+    cond (eqb way received)
     (cond (eqb role coordinator) (coordinatorReceives (eqb table split) m s) (participantReceives (eqb table split) m s))
     (cond (eqb way sent)
     (cond (eqb role coordinator) (coordinatorSends (eqb table split) m s) (participantSends (eqb table split) m s))
-    Invalid))
-    Invalid
+    Invalid)
+
+-- the table's entry; Invalid in a state that the role or the table doesn't have, "ended" or not
+unfoldable pub entryOf : ℕ → ℕ → ℕ → ℕ → ℕ → Entry
+entryOf role table way m s = cond (hasState role table s) (lineOf role table way m s) Invalid
 
 abbrev pub answer : ℕ → ℕ → ℕ → ℕ → Answer
 answer r s a m = record { refusal = r; state = s; action = a; reply = m }

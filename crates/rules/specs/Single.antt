@@ -7,6 +7,7 @@ use Rattle.rules.specs.declared.Entry.{Entry}
 use Rattle.rules.specs.declared.Answer.{Answer}
 use Rattle.rules.specs.Rules.{hasState, moves, entryOf, answerOf, legal}
 use Rattle.rules.specs.Outcome.{askedBy}
+use Rattle.rules.specs.Place.{placeOf, entryAt}
 use Rattle.rules.specs.Marks.{markedIn, suitingMarks}
 
 pub one-result : {A : Type 0} {x r r′ : A} → r ≡ x → r′ ≡ x → r ≡ r′
@@ -25,8 +26,14 @@ module _ (role table way m s : ℕ) (e : Entry) where
   pub answer-of-single : (r r′ : Answer) → r ≡ answerOf e s → r′ ≡ answerOf e s → r ≡ r′
   answer-of-single r r′ = one-result
 
-  pub is-legal-single : (r r′ : Bool) → r ≡ legal (entryOf role table way m s) → r′ ≡ legal (entryOf role table way m s) → r ≡ r′
-  is-legal-single r r′ = one-result
+  pub place-single : (r r′ : ℕ) → r ≡ placeOf role table s → r′ ≡ placeOf role table s → r ≡ r′
+  place-single r r′ = one-result
+
+  pub is-listed-single : (place : ℕ) (r r′ : Bool) → r ≡ legal (entryAt place way m) → r′ ≡ legal (entryAt place way m) → r ≡ r′
+  is-listed-single place r r′ = one-result
+
+  pub placed-entry-single : (place : ℕ) (r r′ : Entry) → r ≡ entryAt place way m → r′ ≡ entryAt place way m → r ≡ r′
+  placed-entry-single place r r′ = one-result
 
   pub marked-single : (marks : ℕ) (r r′ : Bool) → r ≡ markedIn marks role table s → r′ ≡ markedIn marks role table s → r ≡ r′
   marked-single marks r r′ = one-result

@@ -8,9 +8,11 @@ ghost use Prim.Native.Nat.{_<_};
 ghost use lib.ListN.{getD};
 ghost use Rattle.rules.specs.Parts.{lateOf, endsOf, againOf};
 ghost use Rattle.rules.specs.Tables.{coordinatorReceives, coordinatorSends, participantReceives, participantSends};
-ghost use Rattle.rules.specs.Rules.{hasState, entryOf, sends as sendsIt, receives as receivesIt, moves, answerOf, legal};
+ghost use Rattle.rules.specs.Rules.{hasState, entryOf, moves, answerOf, legal};
 ghost use Rattle.rules.specs.Outcome.{askedBy};
-ghost use Rattle.rules.specs.Marks.{markedIn, suitingMarks, rowOf, legalRows};
+ghost use Rattle.rules.specs.Place.{placeOf, entryAt};
+ghost use Rattle.rules.specs.Marks.{markedIn, suitingMarks};
+ghost use Rattle.rules.specs.Rows.{rowOf, beyondRows, movedMarks, legalRows};
 
 // What a table says of a state and a message.
 pub enum Entry {
@@ -69,9 +71,6 @@ const SPREAD: u64 = 0x20_1001;
 
 // The first role and the first table, as they stand in that number.
 const FIRSTS: u64 = 257;
-
-// The row of no message: between those of the two ways, so that it is looked up as they are.
-const NO_ROW: usize = 15;
 
 pub const GOOD: u8 = 0;
 
@@ -379,103 +378,103 @@ pub fn suiting(direction: u8) -> u64
     }
 }
 
-// Whether a role moves a message that way.
-pub fn moves_message(role: u8, way: u8, m: u8) -> bool
-    ensures { λ r. ⌜ r ≡ moves role way m ⌝ }
+// A seat's place: its role, table and state as one number below 64, as `marked` counts the bits of role, table and state.
+pub fn place(role: u8, table: u8, s: u8) -> u64
+    ensures { λ r. ⌜ r ≡ placeOf role table s ⌝ }
 {
-    ((way == SENT) & sends(role, m)) | ((way == RECEIVED) & receives(role, m))
+    (32 * (role as u64) + 16 * (table as u64) + s as u64 + 16) % 64
 }
 
-fn sends(role: u8, m: u8) -> bool
-    ensures { λ r. ⌜ r ≡ sendsIt role m ⌝ }
-{
-    let to_participant = (role == COORDINATOR)
-        & (message::CANCEL <= m)
-        & (m <= message::NOT_COMPLETED);
-    let to_coordinator = (role == PARTICIPANT) & (message::EXIT <= m) & (m <= message::COMPENSATED);
-    to_participant | to_coordinator
-}
-
-fn receives(role: u8, m: u8) -> bool
-    ensures { λ r. ⌜ r ≡ receivesIt role m ⌝ }
-{
-    let from_coordinator = (role == PARTICIPANT)
-        & (message::CANCEL <= m)
-        & (m <= message::NOT_COMPLETED);
-    let from_participant = (role == COORDINATOR)
-        & (message::EXIT <= m)
-        & (m <= message::COMPENSATED);
-    from_coordinator | from_participant
-}
-
-// Where the marks of a message that goes that way stand.
-fn legal_row(way: u8, m: u8) -> usize
+// A message that goes some way has one of 32 rows, if it has any. They are counted from the message `CANCELED`, so that the first and the last
+// have marks, and the match that finds them needs no test of the row.
+fn row(way: u8, m: u8) -> u64
     ensures { λ r. ⌜ r ≡ rowOf way m ⌝ }
 {
-    if (way <= SENT) & (message::CANCEL <= m) & (m <= message::COMPENSATED) {
-        m as usize + 16 * (way as usize)
-    } else {
-        NO_ROW
-    }
+    (2 * (m as u64) + way as u64 + 8) % 32
 }
 
-// The roles, tables and states in which a row's message is legal.
-fn legal_marks(row: usize) -> u64
-    ensures { λ r. ⌜ r ≡ getD legalRows row 0 ⌝ }
+// 0 for a way and a message that have a row, else more.
+fn beyond(way: u8, m: u8) -> u64
+    ensures { λ r. ⌜ r ≡ beyondRows way m ⌝ }
 {
-    match row {
-        1 => 0xfff6_1ff6_0000_0000,
-        2 => 0xfff6_1ff6_0000_0000,
-        3 => 0xf060_1060_0000_0000,
-        4 => 0xf2a0_12a0_0000_0000,
-        5 => 0xf300_1300_0000_0000,
-        6 => 0xf800_1800_0000_0000,
-        7 => 0xf400_1400_0000_0000,
-        8 => 0xf81e_181e,
-        9 => 0xf2f8_12f8,
-        10 => 0xf39e_139e,
-        11 => 0xf41e_141e,
-        12 => 0xf00c_100c,
-        13 => 0xf040_1040,
-        14 => 0xf080_1080,
-        17 => 0x1e_001e,
-        18 => 0x12_0012,
-        19 => 0x60_0060,
-        20 => 0xa0_00a0,
-        21 => 0x2300_1300,
-        22 => 0x4800_1800,
-        23 => 0x8400_1400,
-        24 => 0x812_0812_0000_0000,
-        25 => 0x30_0030_0000_0000,
-        26 => 0x396_0396_0000_0000,
-        27 => 0x412_0412_0000_0000,
-        28 => 0x2004_1004_0000_0000,
-        29 => 0x4040_1040_0000_0000,
-        30 => 0x8080_1080_0000_0000,
+    (way / 2 + m / 16) as u64
+}
+
+// The rows of the messages that a role moves.
+fn moved_marks(role: u8) -> u64
+    ensures { λ r. ⌜ r ≡ movedMarks role ⌝ }
+{
+    match role {
+        COORDINATOR => 0x55aa_a815,
+        PARTICIPANT => 0xaa55_542a,
         _ => 0,
     }
 }
 
-// Whether the tables list the pair of state and message.
-pub fn is_legal(role: u8, table: u8, way: u8, m: u8, s: u8) -> bool
-    ensures { λ r. ⌜ r ≡ legal (entryOf role table way m s) ⌝ }
+// Whether a role moves a message that way.
+pub fn moves_message(role: u8, way: u8, m: u8) -> bool
+    ensures { λ r. ⌜ r ≡ moves role way m ⌝ }
 {
-    marked(legal_marks(legal_row(way, m)), role, table, s)
+    beyond(way, m) < (moved_marks(role) >> row(way, m)) % 2
 }
 
-// What the tables say of a seat in state `s` that received or sends the message, for a state that the role has.
-fn entry_in(role: u8, table: u8, way: u8, m: u8, s: u8) -> Entry
-    requires { ⌜ hasState role table s ≡ true ⌝ }
-    ensures { λ r. ⌜ r ≡ entryOf role table way m s ⌝ }
+// The places at which a row's message is legal.
+fn legal_marks(row: u64) -> u64
+    ensures { λ r. ⌜ r ≡ getD legalRows row 0 ⌝ }
 {
-    let split = table == SPLIT;
+    match row {
+        0 => 0xf00c_f00c,
+        1 => 0x2004_1004_0000_0000,
+        2 => 0xf040_f040,
+        3 => 0x4040_1040_0000_0000,
+        4 => 0xf080_f080,
+        5 => 0x8080_1080_0000_0000,
+        10 => 0xfff6_1ff6_0000_0000,
+        11 => 0x1e_001e,
+        12 => 0xfff6_1ff6_0000_0000,
+        13 => 0x12_0012,
+        14 => 0xf060_1060_0000_0000,
+        15 => 0x60_0060,
+        16 => 0xf2a0_12a0_0000_0000,
+        17 => 0xa0_00a0,
+        18 => 0xf300_f300_0000_0000,
+        19 => 0x2300_1300,
+        20 => 0xf800_f800_0000_0000,
+        21 => 0x4800_1800,
+        22 => 0xf400_f400_0000_0000,
+        23 => 0x8400_1400,
+        24 => 0xf81e_181e,
+        25 => 0x812_0812_0000_0000,
+        26 => 0xf2f8_f2f8,
+        27 => 0x30_0030_0000_0000,
+        28 => 0xf39e_139e,
+        29 => 0x396_0396_0000_0000,
+        30 => 0xf41e_141e,
+        31 => 0x412_0412_0000_0000,
+        _ => 0,
+    }
+}
+
+// Whether the tables list the message at a place.
+pub fn is_listed(place: u64, way: u8, m: u8) -> bool
+    ensures { λ r. ⌜ r ≡ legal (entryAt place way m) ⌝ }
+{
+    beyond(way, m) < (legal_marks(row(way, m)) >> (place % 64)) % 2
+}
+
+// What the tables say at a place.
+pub fn placed_entry(place: u64, way: u8, m: u8) -> Entry
+    ensures { λ r. ⌜ r ≡ entryAt place way m ⌝ }
+{
+    let split = place / 16 % 2 == 1;
+    let s = (place % 16) as u8;
     match way {
-        RECEIVED => if role == COORDINATOR {
+        RECEIVED => if place / 32 % 2 == 0 {
             coordinator_receives(split, m, s)
         } else {
             participant_receives(split, m, s)
         },
-        SENT => if role == COORDINATOR {
+        SENT => if place / 32 % 2 == 0 {
             coordinator_sends(split, m, s)
         } else {
             participant_sends(split, m, s)
@@ -488,10 +487,10 @@ fn entry_in(role: u8, table: u8, way: u8, m: u8, s: u8) -> Entry
 pub fn entry_at(role: u8, table: u8, way: u8, m: u8, s: u8) -> Entry
     ensures { λ r. ⌜ r ≡ entryOf role table way m s ⌝ }
 {
-    if !is_legal(role, table, way, m, s) {
+    if !has_state(role, table, s) {
         return Entry::Invalid;
     }
-    entry_in(role, table, way, m, s)
+    placed_entry(place(role, table, s), way, m)
 }
 
 // An entry in the outline's numbers, at a seat in state `s`.
@@ -532,13 +531,11 @@ pub fn answer_of(e: Entry, s: u8) -> Answer
     }
 }
 
-// The direction that a coordinator's message asks of an atomic activity, or 0.
+// The direction that a coordinator's message asks of an atomic activity, or 0: a sum and not a jump.
 pub fn direction_asked(m: u8) -> u8
     ensures { λ r. ⌜ r ≡ askedBy m ⌝ }
 {
-    match m {
-        message::CLOSE => DIRECTION_CLOSE,
-        message::COMPENSATE => DIRECTION_COMPENSATE,
-        _ => DIRECTION_NONE,
-    }
+    let close = DIRECTION_CLOSE * ((m == message::CLOSE) as u8);
+    let compensate = DIRECTION_COMPENSATE * ((m == message::COMPENSATE) as u8);
+    close + compensate
 }

@@ -14,33 +14,36 @@ use Rattle.records.specs.declared.Event.{Event}
 use Rattle.rules.specs.declared.Entry.{Entry}
 use Rattle.rules.specs.declared.Answer.{Answer}
 use Rattle.rules.specs.Rules.{moves, entryOf, answerOf, legal}
-use Rattle.rules.specs.Laws.{Within, within, moves-in, legal-moves, legal-answered, illegal-invalid}
+use Rattle.rules.specs.Place.{placeOf, entryAt, place-entry}
+use Rattle.rules.specs.Laws.{within, moves-in, legal-moves, legal-answered, illegal-invalid}
 use Rattle.book.specs.declared.Activity.{Activity}
 use Rattle.book.specs.declared.Seat.{Seat}
 use Rattle.book.specs.Layout.{seatCount, seatOf, moved}
+use Rattle.book.specs.Book.{seatsGood}
+use Rattle.book.specs.Good.{seat-has}
 use Rattle.run.specs.Step.{refused, known, ruled, unlistedNumber, wanted, clashes, turned, judged, lotOf, answerTo, bookAfter, outcomeOf, turnedBook}
 
-abbrev entryAt : Seat → ℕ → ℕ → Entry
-entryAt x way m = entryOf (x .role) (x .table) way m (x .state)
+abbrev said : Seat → ℕ → ℕ → Entry
+said x way m = entryOf (x .role) (x .table) way m (x .state)
 
 in-known : (way m : ℕ) → way ≤ 1 → 1 ≤ m → m ≤ 14 → known way m ≡ true
 unfolding known
 in-known way m w l h = both-of (both-of (le-leb way 1 w) (le-leb 1 m l)) (le-leb m 14 h)
 
 module _ (x : Seat) (way m : ℕ) where
-  ruled-unlisted : legal (entryAt x way m) ≡ false → ruled x way m ≡ refused (unlistedNumber (x .role) way m) (x .state)
+  ruled-unlisted : legal (said x way m) ≡ false → ruled x way m ≡ refused (unlistedNumber (x .role) way m) (x .state)
   unfolding ruled unlistedNumber
   ruled-unlisted h = at (known way m) refl (moves (x .role) way m) refl where
     at : (t : Bool) → known way m ≡ t → (u : Bool) → moves (x .role) way m ≡ u → ruled x way m ≡ refused (unlistedNumber (x .role) way m) (x .state)
     at false e false f = simp (e, f)
     at false e true f = let i = moves-in (x .role) way m f in absurd (false≢true (sym e ∙ in-known way m (i .way-high) (i .low) (i .high)))
     at true e false f = simp (e, f)
-    at true e true f = simp (e, f) (ap (λ (z : Entry). answerOf z (x .state)) (sym (illegal-invalid (entryAt x way m) h)))
+    at true e true f = simp (e, f) (ap (λ (z : Entry). answerOf z (x .state)) (sym (illegal-invalid (said x way m) h)))
 
-  ruled-listed : legal (entryAt x way m) ≡ true → ruled x way m ≡ answerOf (entryAt x way m) (x .state)
+  ruled-listed : legal (said x way m) ≡ true → ruled x way m ≡ answerOf (said x way m) (x .state)
   unfolding ruled
   ruled-listed h =
-      let i = within (x .role) (x .table) way m (x .state) h in
+      let i = within (x .role) (x .table) way m (x .state) h .known in
       simp (in-known way m (i .way-high) (i .low) (i .high), legal-moves (x .role) (x .table) way m (x .state) h)
 
   unlisted-some : unlistedNumber (x .role) way m ≡ 0 → ⊥
@@ -59,10 +62,16 @@ module _ (b : List ℕ) (e : Event) (l : e .seat < seatCount b) where
   y = lotOf b (e .seat)
 
   abbrev entry : Entry
-  entry = entryAt (seatOf b (e .seat)) (e .way) (e .message)
+  entry = said (seatOf b (e .seat)) (e .way) (e .message)
 
   abbrev w : ℕ
   w = wanted (lotOf b (e .seat) .kind) (seatOf b (e .seat) .role) (e .way) (e .message)
+
+  -- what stands at the seat's place
+  pub placed : seatsGood b ≡ true → {s : Seat} {p : ℕ} → s ≡ seatOf b (e .seat) → p ≡ placeOf (s .role) (s .table) (s .state) → entryAt p (e .way) (e .message) ≡ entry
+  placed g {s} {p} is-s is-p =
+      ap (λ (k : ℕ). entryAt k (e .way) (e .message)) (is-p ∙ (λ j. placeOf (is-s j .role) (is-s j .table) (is-s j .state)))
+      ∙ place-entry (x .role) (x .table) (e .way) (e .message) (x .state) (seat-has b (e .seat) g l)
 
   here : answerTo b e ≡ outcomeOf (y .direction) w (x .state) (ruled x (e .way) (e .message))
   unfolding answerTo judged

@@ -88,6 +88,13 @@ asked-le role way m = at (eqb role coordinator && eqb way sent) (eqb m close) (e
   at true false false = omega arith
   at false u v = omega arith
 
+pub wanted-le : (kind role way m : ℕ) → wanted kind role way m ≤ 2
+unfolding wanted
+wanted-le kind role way m = at (eqb kind atomic) where
+  at : (t : Bool) → cond t (asked role way m) 0 ≤ 2
+  at true = asked-le role way m
+  at false = omega arith
+
 asked-sent : (role way m : ℕ) → role ≡ coordinator → way ≡ sent → asked role way m ≡ askedBy m
 unfolding asked
 asked-sent role way m e f = simp (eq-eqb role coordinator e, eq-eqb way sent f)

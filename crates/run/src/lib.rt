@@ -3,10 +3,9 @@ ghost use mathlib.Core.Path.{_≡_};
 ghost use Prim.Native.Nat.{_+_, _*_, _≤_, _<_};
 ghost use lib.ListN.{length};
 ghost use Rattle.records.specs.Records.{placed, firstEvents};
-ghost use Rattle.rules.specs.Rules.{entryOf, answerOf};
 ghost use Rattle.book.specs.Layout.{activityCount, seatCount, activityOf, seatOf, moved, Shaped};
 ghost use Rattle.book.specs.Book.{bookRefusal};
-ghost use Rattle.run.specs.Step.{refused, known, unlistedNumber, asked, wanted, clashes, turned, answerTo, bookAfter, answerBytes, answerAt};
+ghost use Rattle.run.specs.Step.{refused, known, unlistedNumber, wanted, clashes, turned, answerTo, bookAfter, answerBytes, answerAt};
 ghost use Rattle.run.specs.Run.{after, filled, runRefusal, runBook, runAnswers};
 use book::Activity;
 use book::Seat;
@@ -55,47 +54,22 @@ fn unlisted(role: u8, way: u8, m: u8) -> u8
     REFUSED_EVENT + is_known(way, m) as u8 + rules::moves_message(role, way, m) as u8
 }
 
-// What the seat's table answers to an event that it lists.
-fn listed(x: Seat, way: u8, m: u8) -> Answer
-    ensures { λ r. ⌜ r ≡ answerOf (entryOf (x .role) (x .table) way m (x .state)) (x .state) ⌝ }
-{
-    let entry = rules::entry_at(x.role, x.table, way, m, x.state);
-    rules::answer_of(entry, x.state)
-}
-
-// The direction that an event asks of an atomic activity, or 0.
-fn ask(role: u8, way: u8, m: u8) -> u8
-    ensures { λ r. ⌜ r ≡ asked role way m ⌝ }
-{
-    if role != rules::COORDINATOR {
-        return rules::DIRECTION_NONE;
-    }
-    if way != rules::SENT {
-        return rules::DIRECTION_NONE;
-    }
-    rules::direction_asked(m)
-}
-
-fn clash(direction: u8, want: u8) -> bool
-    ensures { λ r. ⌜ r ≡ clashes direction want ⌝ }
-{
-    if want == rules::DIRECTION_NONE {
-        return false;
-    }
-    if direction == rules::DIRECTION_NONE {
-        return false;
-    }
-    direction != want
-}
-
 // The direction that an event asks of its activity, or 0: only an atomic one has any.
 fn want(y: Activity, role: u8, way: u8, m: u8) -> u8
     ensures { λ r. ⌜ r ≡ wanted (y .kind) role way m ⌝ }
 {
-    if y.kind == book::ATOMIC {
-        return ask(role, way, m);
+    if (y.kind == book::ATOMIC) & (way == rules::SENT) & (role == rules::COORDINATOR) {
+        return rules::direction_asked(m);
     }
     rules::DIRECTION_NONE
+}
+
+// Whether the activity has one direction and the other is asked for.
+fn clash(direction: u8, want: u8) -> bool
+    requires { ⌜ (direction ≤ 2) × (want ≤ 2) ⌝ }
+    ensures { λ r. ⌜ r ≡ clashes direction want ⌝ }
+{
+    direction + want == rules::DIRECTION_CLOSE + rules::DIRECTION_COMPENSATE
 }
 
 // The seat's state is stored, and the direction that its activity gets.
@@ -123,7 +97,8 @@ fn step(book: &mut [u8], e: Event) -> Answer
         return refuse(REFUSED_NO_SEAT, 0);
     }
     let x = book::read_seat(book, n);
-    if !rules::is_legal(x.role, x.table, e.way, e.message, x.state) {
+    let place = rules::place(x.role, x.table, x.state);
+    if !rules::is_listed(place, e.way, e.message) {
         return refuse(unlisted(x.role, e.way, e.message), x.state);
     }
     let k = x.activity;
@@ -132,7 +107,8 @@ fn step(book: &mut [u8], e: Event) -> Answer
     if clash(y.direction, asks) {
         return refuse(REFUSED_OUTCOME, x.state);
     }
-    let q = listed(x, e.way, e.message);
+    let entry = rules::placed_entry(place, e.way, e.message);
+    let q = rules::answer_of(entry, x.state);
     turn(book, n, k, q.state, asks);
     q
 }
