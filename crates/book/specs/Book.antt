@@ -59,12 +59,15 @@ agreesAt b n =
 unfoldable pub directionsGood : List ℕ → Bool
 directionsGood b = every (agreesAt b) (seatCount b)
 
--- the number of the first refusal that applies, or 0
+-- the number of the first refusal that applies, or 0: of the seats, of all records, of the book
+abbrev pub seatsRefusal : List ℕ → ℕ
+seatsRefusal b = cond (not (seatsGood b)) 4 (cond (not (directionsGood b)) 5 0)
+
+abbrev pub recordsRefusal : List ℕ → ℕ
+recordsRefusal b = cond (not (activitiesGood b)) 3 (seatsRefusal b)
+
 unfoldable pub bookRefusal : List ℕ → ℕ
-bookRefusal b =
-    cond (ltb (length b) headSize) 1
-    (cond (not (headGood b)) 2
-    (cond (not (activitiesGood b)) 3 (cond (not (seatsGood b)) 4 (cond (not (directionsGood b)) 5 0))))
+bookRefusal b = cond (ltb (length b) headSize) 1 (cond (not (headGood b)) 2 (recordsRefusal b))
 
 -- 4 and 5 at once: what the code looks for first
 abbrev pub fitsAt : List ℕ → ℕ → Bool

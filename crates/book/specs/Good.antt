@@ -91,9 +91,12 @@ direction-most kind d h = at (eqb kind atomic) h where
   at true k = leb-true d 2 k
   at false k = let z : d ≡ 0 = eqb-true d 0 (both (eqb kind mixed) (eqb d 0) k .1) in omega arith
 
-pub lot-direction : (b : List ℕ) (k : ℕ) → activitiesGood b ≡ true → k < activityCount b → activityOf b k .direction ≤ 2
+pub lot-good : (b : List ℕ) (k : ℕ) → activitiesGood b ≡ true → k < activityCount b → activityGoodAt b k ≡ true
 unfolding activitiesGood
-lot-direction b k h l = direction-most _ _ (every-at (activityGoodAt b) (activityCount b) k h l)
+lot-good b k h l = every-at (activityGoodAt b) (activityCount b) k h l
+
+pub lot-direction : (b : List ℕ) (k : ℕ) → activitiesGood b ≡ true → k < activityCount b → activityOf b k .direction ≤ 2
+lot-direction b k h l = direction-most _ _ (lot-good b k h l)
 
 abbrev sees : Activity → Seat → Bool
 sees y x = agrees (y .kind) (y .direction) (x .role) (x .state)

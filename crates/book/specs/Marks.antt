@@ -5,26 +5,48 @@ use mathlib.Core.Path.{_≡_, refl, sym, ap, _∙_}
 use mathlib.Core.Bool.{Bool, true, false, cond, not, _&&_, _||_}
 use mathlib.Core.Logic.{⊎-elim}
 use mathlib.Core.List.{List}
-use Prim.Native.Nat.{ℕ, _+_, _≤_, _<_}
+use Prim.Native.Nat.{ℕ, _+_, _*_, _%_, _≤_, _<_}
 use native.Mathlib.Omega.{arith}
-use lib.Dec.{ltb, eqb}
+use lib.Dec.{leb, ltb, eqb, eqb→eq}
 use lib.ListN.{length, getD, set, replicate, length-set, length-replicate, getD-replicate, List·getD-eq-default}
 use lib.Seq.{getD-set-same, getD-set-other}
-use borrow.Author.Tests.{lt-ltb, le-ltb}
+use borrow.Author.Tests.{lt-ltb, le-ltb, leb-true, eqb-true}
+use Rattle.lemmas.specs.Bools.{both}
 use Rattle.lemmas.specs.Orders.{same-or, below-or}
+use Rattle.lemmas.specs.Ranges.{each-at}
 use Rattle.rules.specs.Numbers.{coordinator}
 use Rattle.rules.specs.Rules.{hasState}
 use Rattle.rules.specs.Outcome.{suits}
 use Rattle.rules.specs.Marks.{markedIn, statesMarks, suitingMarks, states-marked, suiting-marked, none-marked}
 use Rattle.book.specs.declared.Seat.{Seat}
 use Rattle.book.specs.Layout.{activityCount, activityOf, seatOf}
-use Rattle.book.specs.Book.{atomic, seatGood, agrees, agreesAt, fitsAt}
+use Rattle.book.specs.Book.{atomic, mixed, activityGood, seatGood, agrees, agreesAt, fitsAt}
 
 abbrev pub seatMarks : ℕ → ℕ → ℕ
 seatMarks kind direction = cond (eqb kind atomic) (suitingMarks direction) statesMarks
 
 abbrev pub seatMarksAt : List ℕ → ℕ → ℕ
 seatMarksAt b k = seatMarks (activityOf b k .kind) (activityOf b k .direction)
+
+-- the four kinds of good activities, numbered as the code does
+abbrev pub marksBy : ℕ → ℕ
+marksBy n = cond (eqb n 0) (suitingMarks 0) (cond (eqb n 1) (suitingMarks 1) (cond (eqb n 2) (suitingMarks 2) statesMarks))
+
+pub marks-by : (kind direction : ℕ) → activityGood kind direction ≡ true → marksBy ((3 * kind + direction + 1) % 4) ≡ seatMarks kind direction
+unfolding activityGood
+marks-by kind direction h = at (eqb kind atomic) refl h where
+  at : (t : Bool) → eqb kind atomic ≡ t → cond t (leb direction 2) (eqb kind mixed && eqb direction 0) ≡ true → marksBy ((3 * kind + direction + 1) % 4) ≡ seatMarks kind direction
+  at true e k =
+      let is : kind ≡ 1 = eqb-true kind 1 e in
+      let l : direction ≤ 2 = leb-true direction 2 k in
+      ap (λ (n : ℕ). marksBy ((3 * n + direction + 1) % 4)) is
+      ∙ eqb→eq _ _ (each-at (λ d. eqb (marksBy ((3 * 1 + d + 1) % 4)) (seatMarks 1 d)) 3 0 tt direction (omega arith) (omega arith))
+      ∙ ap (λ (n : ℕ). seatMarks n direction) (sym is)
+  at false e k =
+      let p = both (eqb kind mixed) (eqb direction 0) k in
+      let is : kind ≡ 2 = eqb-true kind 2 (p .0) in
+      let none : direction ≡ 0 = eqb-true direction 0 (p .1) in
+      (λ j. marksBy ((3 * is j + none j + 1) % 4)) ∙ (λ j. seatMarks (sym is j) (sym none j))
 
 pub marks-agree : (kind direction role table s : ℕ) → markedIn (seatMarks kind direction) role table s ≡ (hasState role table s && agrees kind direction role s)
 unfolding agrees

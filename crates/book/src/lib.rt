@@ -1,10 +1,11 @@
 // The book: where its records stand, and whether it is good. No other crate knows its bytes.
 ghost use mathlib.Core.Path.{_≡_};
+ghost use mathlib.Core.Bool.{true, false};
 ghost use Prim.Native.Nat.{_+_, _*_, _≤_, _<_};
 ghost use lib.ListN.{length};
 ghost use Rattle.book.specs.Layout.{headSize, activityCount, seatCount, sizeOf, activityOf, seatOf, putState, putDirection, moved, Shaped};
 ghost use Rattle.book.specs.Marks.{seatMarks, Marked};
-ghost use Rattle.book.specs.Book.{activityGood, seatGood, activityGoodAt, seatGoodAt, fitsAt, numbersGood, headGood, activitiesGood, seatsGood, seatsFit, bookRefusal};
+ghost use Rattle.book.specs.Book.{activityGood, seatGood, activityGoodAt, seatGoodAt, fitsAt, numbersGood, headGood, activitiesGood, seatsGood, seatsFit, seatsRefusal, recordsRefusal, bookRefusal};
 
 pub struct Activity {
     pub kind: u8,
@@ -235,20 +236,25 @@ fn seats_good(book: &[u8]) -> bool
     i == s
 }
 
-// The states that a seat of an activity may have, by rules 4 and 5 together.
+// The states that a seat of a good activity may have, by rules 4 and 5 together. An atomic activity without a direction, the two with
+// one and a mixed activity are 0, 1, 2 and 3: no processor foresees which of them it is, and four numbers are looked up without a jump.
 fn seat_marks(kind: u8, direction: u8) -> u64
+    requires { ⌜ activityGood kind direction ≡ true ⌝ }
     ensures { λ r. ⌜ r ≡ seatMarks kind direction ⌝ }
 {
-    if kind == ATOMIC {
-        rules::suiting(direction)
-    } else {
-        rules::STATES
+    let which = (3 * (kind as usize) + direction as usize + 1) % 4;
+    match which {
+        0 => rules::suiting(rules::DIRECTION_NONE),
+        1 => rules::suiting(rules::DIRECTION_CLOSE),
+        2 => rules::suiting(rules::DIRECTION_COMPENSATE),
+        _ => rules::STATES,
     }
 }
 
 // A seat as rules 4 and 5 want it.
 fn seat_fits(book: &[u8], n: usize) -> bool
     requires { ⌜ Shaped (now book) ⌝ }
+    requires { ⌜ activitiesGood (now book) ≡ true ⌝ }
     requires { ⌜ n < seatCount (now book) ⌝ }
     ensures { λ r. ⌜ r ≡ fitsAt (now (book .entry)) n ⌝ }
 {
@@ -264,6 +270,7 @@ fn seat_fits(book: &[u8], n: usize) -> bool
 // Every seat is one that the rules allow, and none is against its activity's direction.
 fn seats_fit(book: &[u8]) -> bool
     requires { ⌜ Shaped (now book) ⌝ }
+    requires { ⌜ activitiesGood (now book) ≡ true ⌝ }
     ensures { λ r. ⌜ r ≡ seatsFit (now (book .entry)) ⌝ }
 {
     let s = seat_count(book);
@@ -277,19 +284,24 @@ fn seats_fit(book: &[u8]) -> bool
     i == s
 }
 
-// The marks of each activity's seats, at its number.
-fn put_marks(book: &[u8], marks: &mut [u64])
+// Every activity is one that the rules allow, and then the marks of each one's seats stand at its number.
+fn activities_marked(book: &[u8], marks: &mut [u64]) -> bool
     requires { ⌜ Shaped (now book) ⌝ }
     requires { ⌜ Marked (now book) 0 (now marks) ⌝ }
-    ensures { λ _. ⌜ Marked (now (book .entry)) (activityCount (now (book .entry))) (now (marks .exit)) ⌝ }
+    ensures value { λ r. ⌜ r ≡ activitiesGood (now (book .entry)) ⌝ }
+    ensures marks { λ r. ⌜ (r ≡ true → Marked (now (book .entry)) (activityCount (now (book .entry))) (now (marks .exit))) ⌝ }
 {
     let a = activity_count(book);
     let mut i: usize = 0;
-    while i < a {
+    'walk: while i < a {
         let y = read_activity(book, i);
+        if !activity_good(y.kind, y.direction) {
+            break 'walk;
+        }
         marks[i] = seat_marks(y.kind, y.direction);
         i += 1;
     }
+    i == a
 }
 
 // A seat as `seat_fits` has it, where each activity's marks are at hand. An activity that there is not has none.
@@ -320,28 +332,48 @@ fn seats_marked(book: &[u8], marks: &[u64]) -> bool
     i == s
 }
 
-// Every activity's marks are made once, and each seat is looked up in them: worth their making in a book of many seats.
-fn many_fit(book: &[u8]) -> bool
+// 4 or 5, for seats of which one is not as it should be.
+fn seats_refused(book: &[u8]) -> u8
     requires { ⌜ Shaped (now book) ⌝ }
-    ensures { λ r. ⌜ r ≡ seatsFit (now (book .entry)) ⌝ }
+    requires { ⌜ seatsFit (now book) ≡ false ⌝ }
+    ensures { λ r. ⌜ r ≡ seatsRefusal (now (book .entry)) ⌝ }
+{
+    if !seats_good(book) {
+        return REFUSED_SEAT;
+    }
+    REFUSED_SEAT_DIRECTION
+}
+
+// The refusal of a book's records, or 0. Seats are walked once for rules 4 and 5; only if one is bad they are walked again, to tell the two apart.
+fn few_refused(book: &[u8]) -> u8
+    requires { ⌜ Shaped (now book) ⌝ }
+    ensures { λ r. ⌜ r ≡ recordsRefusal (now (book .entry)) ⌝ }
+{
+    if !activities_good(book) {
+        return REFUSED_ACTIVITY;
+    }
+    if seats_fit(book) {
+        return rules::GOOD;
+    }
+    seats_refused(book)
+}
+
+// The same. Every activity's marks are made once, and each seat is looked up in them: worth their making in a book of many seats.
+fn many_refused(book: &[u8]) -> u8
+    requires { ⌜ Shaped (now book) ⌝ }
+    ensures { λ r. ⌜ r ≡ recordsRefusal (now (book .entry)) ⌝ }
 {
     let mut marks = [0; 256];
-    put_marks(book, &mut marks);
-    seats_marked(book, &marks)
-}
-
-fn all_fit(book: &[u8]) -> bool
-    requires { ⌜ Shaped (now book) ⌝ }
-    ensures { λ r. ⌜ r ≡ seatsFit (now (book .entry)) ⌝ }
-{
-    if seat_count(book) < MANY_SEATS {
-        seats_fit(book)
-    } else {
-        many_fit(book)
+    if !activities_marked(book, &mut marks) {
+        return REFUSED_ACTIVITY;
     }
+    if seats_marked(book, &marks) {
+        return rules::GOOD;
+    }
+    seats_refused(book)
 }
 
-// The refusal of a book, or 0. A good book is walked once for rules 4 and 5; only a bad one is walked again, to tell them apart.
+// The refusal of a book, or 0.
 pub fn check(book: &[u8]) -> u8
     ensures { λ r. ⌜ r ≡ bookRefusal (now (book .entry)) ⌝ }
 {
@@ -351,14 +383,9 @@ pub fn check(book: &[u8]) -> u8
     if !head_good(book) {
         return REFUSED_LAYOUT;
     }
-    if !activities_good(book) {
-        return REFUSED_ACTIVITY;
+    if seat_count(book) < MANY_SEATS {
+        few_refused(book)
+    } else {
+        many_refused(book)
     }
-    if all_fit(book) {
-        return rules::GOOD;
-    }
-    if !seats_good(book) {
-        return REFUSED_SEAT;
-    }
-    REFUSED_SEAT_DIRECTION
 }

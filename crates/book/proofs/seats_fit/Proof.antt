@@ -22,7 +22,7 @@ walk-holds : tie.Need-walk-holds Inv-walk μ-walk
 walk-holds c = (search needs, every-none _)
 
 seat-fits-requires : tie.Need-seat-fits-requires Inv-walk μ-walk
-seat-fits-requires c κs = (c .before .before .before .before .pre, omega arith)
+seat-fits-requires c κs = (c .before .before .before .before .pre .0, (c .before .before .before .before .pre .1, omega arith))
 
 walk-again : tie.Need-walk-again Inv-walk μ-walk
 walk-again c = (omega arith, every-more _ _ (c .before .before .before .walk .inv .1) (sym (c .before .seat-fits .ensures) ∙ not-false _ (c .if1 .left)))
