@@ -10,6 +10,7 @@ QUOTED = re.compile(r"`([^`]+)`")
 SPECIFIED = re.compile(r"(?P<crate>\w+)/(?P<file>\w+\.antt): (?P<names>.+)")
 CODED = re.compile(r"(?P<crate>\w+)::(?P<name>\w+)")
 EDITED = re.compile(r"(?P<crate>\w+)/(?P<label>\w+)\.edit")
+TRIED = re.compile(r"edits/(?P<path>\w+/\w+\.edit)")
 MADE = re.compile(r"(?P<file>\w+\.py): (?P<names>.+)")
 MUTATED = re.compile(r"mutants\.rs: (?P<names>.+)")
 PLACED = re.compile(r"(?P<path>(?:tests|crates|examples|include)/[\w./-]+)(?:: (?P<names>.+))?")
@@ -56,6 +57,9 @@ def faults_of(quoted):
     if match := EDITED.fullmatch(quoted):
         path = crates / match["crate"] / "must-fail" / f"{match['label']}.edit"
         return [] if path.is_file() else [quoted]
+    if match := TRIED.fullmatch(quoted):
+        path = ROOT / "tests" / "wrong_programs" / "edits" / match["path"]
+        return [] if path.is_file() else [quoted]
     if match := MUTATED.fullmatch(quoted):
         mutants = ROOT / "tests" / "differential" / "src" / "mutants.rs"
         return missing(mutants, match["names"], lambda text, name: f'"{name}"' in text)
@@ -68,7 +72,7 @@ def faults_of(quoted):
 
 
 def known(quoted):
-    patterns = (SPECIFIED, CODED, EDITED, MUTATED, MADE, PLACED)
+    patterns = (SPECIFIED, CODED, EDITED, TRIED, MUTATED, MADE, PLACED)
     return any(pattern.fullmatch(quoted) for pattern in patterns)
 
 
