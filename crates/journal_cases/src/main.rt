@@ -2,7 +2,7 @@
 // refusal, its line and the event count) and `area` with the area's bytes. A case is the text's length and the area's, in four
 // little-endian bytes each, and the text. The area is filled with 165 before the call.
 ghost use mathlib.Core.Path.{_≡_};
-ghost use Prim.Native.Nat.{_≤_, _<_};
+ghost use Prim.Native.Nat.{_<_};
 ghost use lib.ListN.{length};
 use libc::STDIN_FILENO;
 use libc::STDOUT_FILENO;

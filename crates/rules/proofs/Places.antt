@@ -2,7 +2,7 @@
 -- The argument: the three are in range exactly where x's two low bytes are at most 1 and x is below 16 · 65536 (omega); and at each of the 64
 -- places in range antt computes that the product with the code's constant holds the number of the place.
 -- Assumes nothing.
-use mathlib.Core.Path.{_≡_, refl, sym, ap, _∙_}
+use mathlib.Core.Path.{_≡_, sym, ap, _∙_}
 use Prim.Native.Nat.{ℕ, _+_, _*_, _-_, _/_, _%_, _≤_, _<_}
 use mathlib.Core.Logic.{⊎-elim}
 use native.Mathlib.Omega.{arith}

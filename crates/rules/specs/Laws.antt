@@ -53,13 +53,17 @@ has-state role table s h =
     let r = role-of role s (p .1) in
     record { role-low = r .0; role-high = r .1; table-low = t .0; table-high = t .1; low = l; high = t .2 }
 
--- a message that a role moves is one of the outline's, and so is its way
-pub record Moves (role way m : ℕ) : Type 0 where
-  pub role-low : 1 ≤ role
-  pub role-high : role ≤ 2
+-- a way and a message of the outline
+pub record Known (way m : ℕ) : Type 0 where
   pub way-high : way ≤ 1
   pub low : 1 ≤ m
   pub high : m ≤ 14
+
+-- what a role moves is known, and so is the role
+pub record Moves (role way m : ℕ) : Type 0 where
+  pub role-low : 1 ≤ role
+  pub role-high : role ≤ 2
+  pub known : Known way m
 
 message-of : (role a b m : ℕ) → ((eqb role a && leb 1 m && leb m 7) || (eqb role b && leb 8 m && leb m 14)) ≡ true
     → ((role ≡ a) ⊎ (role ≡ b)) × (1 ≤ m) × (m ≤ 14)
@@ -91,13 +95,13 @@ moves-in role way m h =
     let z : way ≡ 1 = eqb-true way 1 (p .0) in
     let q = message-of role coordinator participant m (p .1) in
     let r = one-of 1 2 (omega arith) (omega arith) (omega arith) (omega arith) (q .0) in
-    record { role-low = r .0; role-high = r .1; way-high = omega arith; low = q .1; high = q .2 })
+    record { role-low = r .0; role-high = r .1; known = record { way-high = omega arith; low = q .1; high = q .2 } })
     (λ (e : (eqb way received && receives role m) ≡ true).
     let p = both (eqb way received) (receives role m) e in
     let z : way ≡ 0 = eqb-true way 0 (p .0) in
     let q = message-of role participant coordinator m (p .1) in
     let r = one-of 2 1 (omega arith) (omega arith) (omega arith) (omega arith) (q .0) in
-    record { role-low = r .0; role-high = r .1; way-high = omega arith; low = q .1; high = q .2 })
+    record { role-low = r .0; role-high = r .1; known = record { way-high = omega arith; low = q .1; high = q .2 } })
     (either (eqb way sent && sends role m) (eqb way received && receives role m) h)
 
 -- every line is of a message from 1 to 14, so what is found is
@@ -136,12 +140,7 @@ sent-legal s (Move next) h = refl
 sent-legal s (Forget next) h = refl
 sent-legal s (Reply m) h = refl
 
--- what the lines list is one of the outline's messages, and so is its way
-pub record Known (way m : ℕ) : Type 0 where
-  pub way-high : way ≤ 1
-  pub low : 1 ≤ m
-  pub high : m ≤ 14
-
+-- what the lines list is known
 pub line-known : (role table way m s : ℕ) → legal (lineOf role table way m s) ≡ true → Known way m
 unfolding lineOf coordinatorReceives coordinatorSends participantReceives participantSends
 line-known role table way m s h = at (eqb way received) refl (eqb way sent) refl (eqb role coordinator) refl where

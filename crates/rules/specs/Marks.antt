@@ -3,18 +3,16 @@
 -- Assumes nothing.
 use mathlib.Core.Path.{_≡_, refl, sym, _∙_, ap}
 use mathlib.Core.Bool.{Bool, true, false, cond, not, _&&_, _||_, false≢true}
-use mathlib.Core.List.{List, [], _∷_}
 use Prim.Native.Nat.{ℕ, _+_, _*_, _-_, _/_, _%_, _^_, _≤_, _<_}
 use native.Mathlib.Omega.{arith}
 use lib.Dec.{T, eqb, leb}
-use lib.ListN.{getD}
 use borrow.Author.Tests.{leb-true, le-leb, eqb-true, eqb-false, ne-eqb}
 use Rattle.lemmas.specs.Bools.{both, both-of, same, same-is, never-true}
 use Rattle.lemmas.specs.Ranges.{each, each-at}
-use Rattle.rules.specs.Numbers.{coordinator, participant, plain, split, sent, received}
+use Rattle.rules.specs.Numbers.{coordinator}
 use Rattle.rules.specs.Rules.{lastState, hasState}
 use Rattle.rules.specs.Outcome.{neededBy, suits}
-use Rattle.rules.specs.Laws.{HasState, has-state}
+use Rattle.rules.specs.Laws.{has-state}
 use Rattle.rules.specs.Place.{placeOf}
 
 -- a role 1 or 2, a table 1 or 2, a state up to 15

@@ -1,13 +1,12 @@
 -- A seat's place, which is its role, table and state as one number below 64, and what the tables say at a place.
 -- Assumes nothing.
-use mathlib.Core.Path.{_≡_, refl, sym, _∙_}
+use mathlib.Core.Path.{_≡_, sym, _∙_}
 use mathlib.Core.Bool.{true}
-use Prim.Native.Nat.{ℕ, _+_, _*_, _/_, _%_, _≤_, _<_}
+use Prim.Native.Nat.{ℕ, _+_, _*_, _/_, _%_, _≤_}
 use native.Mathlib.Omega.{arith}
 use Rattle.rules.specs.declared.Entry.{Entry}
 use Rattle.rules.specs.Rules.{hasState, lineOf, entryOf}
-use Rattle.rules.specs.Laws.{HasState, has-state, entry-line}
-
+use Rattle.rules.specs.Laws.{has-state, entry-line}
 -- 32 places a role, 16 a table, the first of both at 0
 abbrev pub placeOf : ℕ → ℕ → ℕ → ℕ
 placeOf role table s = (32 * role + 16 * table + s + 16) % 64

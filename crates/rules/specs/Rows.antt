@@ -18,7 +18,7 @@ use Rattle.lemmas.specs.Ranges.{each, each-at}
 use Rattle.rules.specs.Numbers.{coordinator, participant}
 use Rattle.rules.specs.Tables.{coordinatorReceives, coordinatorSends, participantReceives, participantSends}
 use Rattle.rules.specs.Rules.{lineOf, moves, sends, receives, legal}
-use Rattle.rules.specs.Laws.{Known, line-known, Moves, moves-in}
+use Rattle.rules.specs.Laws.{Known, line-known, moves-in}
 use Rattle.rules.specs.Place.{roleAt, tableAt, stateAt, entryAt}
 
 -- two rows a message, the first of message 12
@@ -62,9 +62,6 @@ module _ (marks at : ℕ → ℕ → ℕ) (rule : ℕ → ℕ → Bool) where
 abbrev pub movedMarks : ℕ → ℕ
 movedMarks role = cond (eqb role coordinator) 0x55aaa815 (cond (eqb role participant) 0xaa55542a 0)
 
-moves-known : (role way m : ℕ) → moves role way m ≡ true → Known way m
-moves-known role way m h = let i = moves-in role way m h in record { way-high = i .way-high; low = i .low; high = i .high }
-
 no-row : (way m : ℕ) → marksIt 0 (rowOf way m) way m ≡ false
 no-row = rows-are (λ way m. 0) rowOf (λ way m. false) tt (λ way m h. absurd (false≢true h))
 
@@ -75,7 +72,7 @@ moved-test = (tt, tt)
 pub moved-marked : (role way m : ℕ) → marksIt (movedMarks role) (rowOf way m) way m ≡ moves role way m
 moved-marked role way m = at (eqb role coordinator) refl (eqb role participant) refl where
   of : (r marks : ℕ) → T (rowsAre (λ way m. marks) rowOf (moves r)) → role ≡ r → marksIt marks (rowOf way m) way m ≡ moves role way m
-  of r marks test e = rows-are (λ way m. marks) rowOf (moves r) test (moves-known r) way m ∙ ap (λ (k : ℕ). moves k way m) (sym e)
+  of r marks test e = rows-are (λ way m. marks) rowOf (moves r) test (λ way m h. moves-in r way m h .known) way m ∙ ap (λ (k : ℕ). moves k way m) (sym e)
 
   at : (t : Bool) → eqb role coordinator ≡ t → (u : Bool) → eqb role participant ≡ u → marksIt (movedMarks role) (rowOf way m) way m ≡ moves role way m
   at true e u f = rw e (of 1 0x55aaa815 (moved-test .0) (eqb-true role 1 e))

@@ -3,7 +3,6 @@ pub mod message;
 pub mod state;
 
 ghost use mathlib.Core.Path.{_≡_};
-ghost use mathlib.Core.Bool.{true};
 ghost use Prim.Native.Nat.{_<_};
 ghost use lib.ListN.{getD};
 ghost use Rattle.rules.specs.Parts.{lateOf, endsOf, againOf};

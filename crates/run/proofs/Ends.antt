@@ -3,9 +3,9 @@
 -- and moved that way, so the tables answer it, unless its activity's direction is the other.
 -- Assumes nothing.
 use mathlib.Core.Path.{_≡_, refl, sym, ap, _∙_}
-use mathlib.Core.Bool.{Bool, true, false, cond, _&&_, false≢true, and-false}
+use mathlib.Core.Bool.{Bool, true, false, false≢true, and-false}
 use mathlib.Core.List.{List}
-use Prim.Native.Nat.{ℕ, _+_, _≤_, _<_}
+use Prim.Native.Nat.{ℕ, _≤_, _<_}
 use native.Mathlib.Omega.{arith}
 use lib.Dec.{eqb}
 use borrow.Author.Tests.{eq-eqb, ne-eqb, lt-ltb, le-ltb, le-leb}
@@ -15,7 +15,7 @@ use Rattle.rules.specs.declared.Entry.{Entry}
 use Rattle.rules.specs.declared.Answer.{Answer}
 use Rattle.rules.specs.Rules.{moves, entryOf, answerOf, legal}
 use Rattle.rules.specs.Place.{placeOf, entryAt, place-entry}
-use Rattle.rules.specs.Laws.{within, moves-in, legal-moves, legal-answered, illegal-invalid}
+use Rattle.rules.specs.Laws.{Known, within, moves-in, legal-moves, legal-answered, illegal-invalid}
 use Rattle.book.specs.declared.Activity.{Activity}
 use Rattle.book.specs.declared.Seat.{Seat}
 use Rattle.book.specs.Layout.{seatCount, seatOf, moved}
@@ -26,9 +26,9 @@ use Rattle.run.specs.Step.{refused, known, ruled, unlistedNumber, wanted
 abbrev said : Seat → ℕ → ℕ → Entry
 said x way m = entryOf (x .role) (x .table) way m (x .state)
 
-in-known : (way m : ℕ) → way ≤ 1 → 1 ≤ m → m ≤ 14 → known way m ≡ true
+in-known : (way m : ℕ) → Known way m → known way m ≡ true
 unfolding known
-in-known way m w l h = both-of (both-of (le-leb way 1 w) (le-leb 1 m l)) (le-leb m 14 h)
+in-known way m i = both-of (both-of (le-leb way 1 (i .way-high)) (le-leb 1 m (i .low))) (le-leb m 14 (i .high))
 
 module _ (x : Seat) (way m : ℕ) where
   ruled-unlisted : legal (said x way m) ≡ false → ruled x way m ≡ refused (unlistedNumber (x .role) way m) (x .state)
@@ -36,15 +36,14 @@ module _ (x : Seat) (way m : ℕ) where
   ruled-unlisted h = at (known way m) refl (moves (x .role) way m) refl where
     at : (t : Bool) → known way m ≡ t → (u : Bool) → moves (x .role) way m ≡ u → ruled x way m ≡ refused (unlistedNumber (x .role) way m) (x .state)
     at false e false f = simp (e, f)
-    at false e true f = let i = moves-in (x .role) way m f in absurd (false≢true (sym e ∙ in-known way m (i .way-high) (i .low) (i .high)))
+    at false e true f = absurd (false≢true (sym e ∙ in-known way m (moves-in (x .role) way m f .known)))
     at true e false f = simp (e, f)
     at true e true f = simp (e, f) (ap (λ (z : Entry). answerOf z (x .state)) (sym (illegal-invalid (said x way m) h)))
 
   ruled-listed : legal (said x way m) ≡ true → ruled x way m ≡ answerOf (said x way m) (x .state)
   unfolding ruled
   ruled-listed h =
-      let i = within (x .role) (x .table) way m (x .state) h .known in
-      simp (in-known way m (i .way-high) (i .low) (i .high), legal-moves (x .role) (x .table) way m (x .state) h)
+      simp (in-known way m (within (x .role) (x .table) way m (x .state) h .known), legal-moves (x .role) (x .table) way m (x .state) h)
 
   unlisted-some : unlistedNumber (x .role) way m ≡ 0 → ⊥
   unfolding unlistedNumber

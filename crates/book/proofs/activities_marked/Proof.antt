@@ -2,7 +2,7 @@
 -- all were.
 -- Assumes nothing.
 use mathlib.Core.Path.{_≡_, sym, _∙_, ap, subst}
-use mathlib.Core.Bool.{true, false}
+use mathlib.Core.Bool.{true}
 use mathlib.Core.Logic.{⊎-elim}
 use Prim.Native.Nat.{ℕ, _-_, _≤_, _<_}
 use native.Mathlib.Omega.{arith}
@@ -11,7 +11,6 @@ use borrow.Author.Needs.{needs}
 use borrow.Author.Tests.{not-true, not-false, eqb-true}
 use Rattle.lemmas.specs.Walks.{every, every-none, every-more, walk-end, walk-left}
 use Rattle.book.specs.declared.Activity.{Activity}
-use Rattle.book.specs.Layout.{activityCount}
 use Rattle.book.specs.Book.{activityGood, activityGoodAt, activitiesGood}
 use Rattle.book.specs.Marks.{seatMarks, Marked, marked-more}
 use Rattle.book.proofs.activities_marked.Statement.{statement}

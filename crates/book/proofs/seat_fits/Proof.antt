@@ -1,6 +1,6 @@
 -- A seat of no activity does not fit; another where its activity's marks have it (`fits-marked`), and every activity is good (`lot-good`).
 -- Assumes nothing.
-use mathlib.Core.Path.{_≡_, sym, _∙_, ap}
+use mathlib.Core.Path.{_≡_, _∙_, ap}
 use mathlib.Core.Bool.{Bool, true, false}
 use mathlib.Core.List.{List}
 use Prim.Native.Nat.{ℕ, _≤_, _<_}

@@ -1,14 +1,13 @@
 -- The seat is looked up in the marks of all (`looked-up`).
 -- Assumes nothing.
-use mathlib.Core.Path.{_≡_, _∙_, ap}
-use Prim.Native.Nat.{_<_}
+use mathlib.Core.Path.{_∙_, ap}
 use native.Mathlib.Omega.{arith}
-use lib.ListN.{length, getD}
+use lib.ListN.{getD}
 use denote.Ref.{now}
 use borrow.Author.Needs.{needs}
 use Rattle.rules.specs.Marks.{markedIn}
 use Rattle.book.specs.declared.Seat.{Seat}
-use Rattle.book.specs.Marks.{Marked, looked-up}
+use Rattle.book.specs.Marks.{looked-up}
 use Rattle.book.proofs.seat_marked.Statement.{statement}
 use Rattle.book.proofs.seat_marked.Tie as tie
 

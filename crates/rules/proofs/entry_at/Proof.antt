@@ -1,6 +1,6 @@
 -- Without the state Invalid; with it what stands at its place.
 -- Assumes nothing.
-use mathlib.Core.Path.{_≡_, sym, _∙_, ap}
+use mathlib.Core.Path.{sym, _∙_, ap}
 use Prim.Native.Nat.{ℕ}
 use borrow.Author.Needs.{needs}
 use borrow.Author.Tests.{not-true, not-false}

@@ -1,7 +1,7 @@
 -- The role's marks are the rows of the messages that it moves.
 -- Assumes nothing.
 use mathlib.Core.Path.{_∙_}
-use Prim.Native.Nat.{ℕ, _/_, _%_, _^_}
+use Prim.Native.Nat.{_/_, _%_, _^_}
 use lib.Dec.{ltb}
 use borrow.Author.Needs.{needs}
 use Rattle.rules.specs.Rows.{moved-marked}
