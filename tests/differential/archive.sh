@@ -1,4 +1,4 @@
-# For the scripts here, in bench/ and in examples/, which set `root` first: finds
+# For the scripts here, in tests/refusals/, bench/ and examples/, which set `root` first: finds
 # the library's archive, and builds it where it is missing. LOTEND_ARCHIVE_DIR may
 # name another folder that has one.
 
@@ -11,7 +11,7 @@ else
     LOTEND_ARCHIVE_DIR=$(cd "$LOTEND_ARCHIVE_DIR" && pwd)
 fi
 
-# The C engine of the benchmark. No -march=native: both sides get plain x86-64.
+# The benchmark's C engine for x86-64. No -march=native: both sides get plain x86-64.
 build_plain_engine() {
     export PLAIN_ARCHIVE_DIR="$root/target/plain"
     mkdir -p "$PLAIN_ARCHIVE_DIR"

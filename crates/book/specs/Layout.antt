@@ -1,4 +1,4 @@
--- Where the book's records stand: the one file that speaks of byte positions.
+-- Where the book's records stand: byte positions are defined here alone.
 -- Assumes nothing.
 use mathlib.Core.Path.{_≡_}
 use Prim.Native.Nat.{ℕ, _+_, _*_, _≤_}

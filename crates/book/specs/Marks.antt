@@ -28,7 +28,7 @@ seatMarks kind direction = cond (eqb kind atomic) (suitingMarks direction) state
 abbrev pub seatMarksAt : List ℕ → ℕ → ℕ
 seatMarksAt b k = seatMarks (activityOf b k .kind) (activityOf b k .direction)
 
--- the four kinds of good activities, numbered as the code does
+-- the marks of the four good pairs of kind and direction, numbered as the code does
 abbrev pub marksBy : ℕ → ℕ
 marksBy n = cond (eqb n 0) (suitingMarks 0) (cond (eqb n 1) (suitingMarks 1) (cond (eqb n 2) (suitingMarks 2) statesMarks))
 

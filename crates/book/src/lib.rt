@@ -138,7 +138,7 @@ pub fn put_outcome(book: &mut [u8], n: usize, k: usize, state: u8, direction: u8
     put_direction(book, k, direction);
 }
 
-// An atomic activity has directions up to 2 and a mixed one none: two fewer for one kind more. So it is one comparison, as no processor
+// An atomic activity has directions up to 2 and a mixed one none: two fewer for one kind more. So it is a sum and no jump, as no processor
 // foresees an activity's kind.
 fn activity_good(kind: u8, direction: u8) -> bool
     ensures { λ r. ⌜ r ≡ activityGood kind direction ⌝ }

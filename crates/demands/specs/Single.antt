@@ -1,4 +1,4 @@
--- Two results that a contract allows are equal, for the public functions below the run. Each contract is an equation to a definition of
+-- Two results that a contract allows are equal, for the public functions of the crates that this page does not name below. Each contract is an equation to a definition of
 -- the arguments: the result, and for a function that writes also the bytes afterwards. (The tables' functions: rules/specs/Single; a
 -- run: `run-single`; a journal: `read-single`; the program's text: desk.)
 -- Assumes nothing.

@@ -3,15 +3,15 @@
 use mathlib.Core.Path.{_≡_, refl, ap, sym, subst, _∙_}
 use mathlib.Core.Bool.{Bool, true, false, cond, _&&_, _||_}
 use mathlib.Core.List.{List, [], _∷_}
-use mathlib.Core.Logic.{_⊎_, inl, inr, ⊎-elim}
-use Prim.Native.Nat.{ℕ, zero, suc, _+_, _-_, _≤_, _<_}
-use native.Mathlib.Nat.{eq-or-lt-of-le}
+use mathlib.Core.Logic.{inl, inr, ⊎-elim}
+use Prim.Native.Nat.{ℕ, _-_, _≤_, _<_}
 use native.Mathlib.Omega.{arith}
 use lib.Dec.{T, eqb, eqb→eq}
 use borrow.Author.Tests.{ne-eqb}
 use mir.Val.{hasKey}
 use mir.Facts.{and-yes, or-yes}
 use types.Run.{OneOf, hit}
+use Rattle.lemmas.specs.Ranges.{each, each-at}
 use Rattle.rules.specs.declared.Entry.{Entry}
 use Rattle.rules.specs.declared.Entry.the-variants.{Invalid, Ignore, Move, Forget, Reply}
 use Rattle.rules.specs.Tables.{Line, P, S, B, speaks, look}
@@ -52,17 +52,6 @@ same-is a b t =
     let n : number a ≡ number b = eqb→eq (number a) (number b) (h .1) in
     cc (made-is a, made-is b)
 
--- the test f passes at each of the n numbers from i
-abbrev pub run : (ℕ → Bool) → ℕ → ℕ → Bool
-run f i zero = true
-run f i (suc n) = f i && run f (suc i) n
-
-run-at : (f : ℕ → Bool) (n i : ℕ) → T (run f i n) → (s : ℕ) → i ≤ s → s < i + n → T (f s)
-run-at f zero i t s h k = absurd (omega arith)
-run-at f (suc n) i t s h k =
-    let p = and-yes (f i) (run f (suc i) n) t in
-    ⊎-elim (λ e. subst (λ (m : ℕ). T (f m)) e (p .0)) (λ l. run-at f n (suc i) (p .1) s l (omega arith)) (eq-or-lt-of-le h)
-
 -- what the arms before said of the state: that it is none of their keys, in the arms' order
 abbrev pub Others : Type 0 → List (List ℕ) → ℕ → Type 0
 Others N [] s = N
@@ -82,17 +71,17 @@ none N (ks ∷ kss) s o t =
     ⊎-elim (λ h. others-last (N × (OneOf ks s → ⊥)) kss s o .1 (hit ks s h)) (λ h. none (N × (OneOf ks s → ⊥)) kss s o h) (or-yes (hasKey ks s) (anyKey kss s) t)
 
 -- what is known of the table in an arm
-pub data Known (b : Bool) : Type 0 where
-  either : Known b
-  is-split : b ≡ true → Known b
-  is-plain : b ≡ false → Known b
+pub data Told (b : Bool) : Type 0 where
+  either : Told b
+  is-split : b ≡ true → Told b
+  is-plain : b ≡ false → Told b
 
-abbrev pub inTables : (b : Bool) → Known b → (Bool → Bool) → Bool
+abbrev pub inTables : (b : Bool) → Told b → (Bool → Bool) → Bool
 inTables b either f = f true && f false
 inTables b (is-split e) f = f true
 inTables b (is-plain e) f = f false
 
-in-tables : (b : Bool) (w : Known b) (f : Bool → Bool) → T (inTables b w f) → T (f b)
+in-tables : (b : Bool) (w : Told b) (f : Bool → Bool) → T (inTables b w f) → T (f b)
 in-tables true either f t = and-yes (f true) (f false) t .0
 in-tables false either f t = and-yes (f true) (f false) t .1
 in-tables b (is-split e) f t = subst (λ (x : Bool). T (f x)) (sym e) t
@@ -157,28 +146,28 @@ module _ {rule : Bool → ℕ → ℕ → Entry} (table : Table rule) where
       same-is a (table .way s (look (table .lines) b m s)) t ∙ sym (table .is b m s) ∙ ap (λ n. rule b n s) (sym e)
 
   -- an arm of single states answers a, which may go by the table and the state
-  pub armOf : (a : Bool → ℕ → Entry) (m : ℕ) (ks : List ℕ) {r : Entry} {b : Bool} {message s : ℕ} (w : Known b) → r ≡ a b s → message ≡ m → OneOf ks s →
+  pub armOf : (a : Bool → ℕ → Entry) (m : ℕ) (ks : List ℕ) {r : Entry} {b : Bool} {message s : ℕ} (w : Told b) → r ≡ a b s → message ≡ m → OneOf ks s →
       T (inTables b w (λ x. keys ks (λ k. says? (a x k) m x k))) → r ≡ rule b message s
   armOf a m ks {r} {b} {message} {s} w p e h t =
       p ∙ found m e (keys-at ks (λ k. says? (a b k) m b k) (in-tables b w (λ x. keys ks (λ k. says? (a x k) m x k)) t) s h)
 
-  pub arm : (m : ℕ) (ks : List ℕ) {a : Entry} {b : Bool} {message s : ℕ} (w : Known b) → message ≡ m → OneOf ks s →
+  pub arm : (m : ℕ) (ks : List ℕ) {a : Entry} {b : Bool} {message s : ℕ} (w : Told b) → message ≡ m → OneOf ks s →
       T (inTables b w (λ x. keys ks (says? a m x))) → a ≡ rule b message s
   arm m ks {a} w e h t = armOf (λ x k. a) m ks w refl e h t
 
   -- a range, or what the arms leave, at each state from lo up to hi that is no key of kss
-  pub spanOf : (a : Bool → ℕ → Entry) (m lo hi : ℕ) (kss : List (List ℕ)) {r : Entry} {b : Bool} {message s : ℕ} (w : Known b) → r ≡ a b s → Here m lo hi message s → Others (Unit {0}) kss s →
-      T (inTables b w (λ x. run (λ k. anyKey kss k || says? (a x k) m x k) lo (hi - lo))) → r ≡ rule b message s
+  pub spanOf : (a : Bool → ℕ → Entry) (m lo hi : ℕ) (kss : List (List ℕ)) {r : Entry} {b : Bool} {message s : ℕ} (w : Told b) → r ≡ a b s → Here m lo hi message s → Others (Unit {0}) kss s →
+      T (inTables b w (λ x. each (λ k. anyKey kss k || says? (a x k) m x k) lo (hi - lo))) → r ≡ rule b message s
   spanOf a m lo hi kss {r} {b} {message} {s} w p h o t =
       let l = h .from in
       let u = h .below in
       p ∙ found m (h .is)
       (⊎-elim (λ k. absurd (none (Unit {0}) kss s o k)) (λ k. k)
       (or-yes (anyKey kss s) (says? (a b s) m b s)
-      (run-at (λ k. anyKey kss k || says? (a b k) m b k) (hi - lo) lo (in-tables b w (λ x. run (λ k. anyKey kss k || says? (a x k) m x k) lo (hi - lo)) t) s l (omega arith))))
+      (each-at (λ k. anyKey kss k || says? (a b k) m b k) (hi - lo) lo (in-tables b w (λ x. each (λ k. anyKey kss k || says? (a x k) m x k) lo (hi - lo)) t) s l (omega arith))))
 
-  pub span : (m lo hi : ℕ) (kss : List (List ℕ)) {a : Entry} {b : Bool} {message s : ℕ} (w : Known b) → Here m lo hi message s → Others (Unit {0}) kss s →
-      T (inTables b w (λ x. run (λ k. anyKey kss k || says? a m x k) lo (hi - lo))) → a ≡ rule b message s
+  pub span : (m lo hi : ℕ) (kss : List (List ℕ)) {a : Entry} {b : Bool} {message s : ℕ} (w : Told b) → Here m lo hi message s → Others (Unit {0}) kss s →
+      T (inTables b w (λ x. each (λ k. anyKey kss k || says? a m x k) lo (hi - lo))) → a ≡ rule b message s
   span m lo hi kss {a} w h o t = spanOf (λ x k. a) m lo hi kss w refl h o t
 
   -- what the arms of messages leave is Invalid: the lines have no other message

@@ -1,6 +1,6 @@
 -- Laws of the tables that callers use in place of their text.
 -- The argument: a legal entry has its role, table, way, message and state in range (`Within`), and what is to be shown of it is a
--- test that antt computes at each of the 1,680 places in range.
+-- test that antt computes at each of the 1,680 entries in range.
 -- Assumes nothing.
 use mathlib.Core.Path.{_≡_, refl, subst}
 use mathlib.Core.Bool.{Bool, true, false, not, cond, _&&_, _||_, false≢true, true≢false}
@@ -178,7 +178,7 @@ legal-state role table way m s h = at (hasState role table s) refl where
   at true e = refl
   at false e = absurd (false≢true (simp e at h))
 
--- a legal entry's place in the tables
+-- what a legal entry's role, table, way, message and state are
 pub record Within (role table way m s : ℕ) : Type 0 where
   pub has : HasState role table s
   pub known : Known way m
@@ -286,7 +286,7 @@ reply-leaves (Move next) s h = absurd (omega arith)
 reply-leaves (Forget next) s h = absurd (omega arith)
 reply-leaves (Reply m) s h = refl
 
--- a refusal of the tables is 14 and leaves the state
+-- an entry that is answered is legal
 pub legal-good : (e : Entry) (s : ℕ) → answerOf e s .refusal ≡ 0 → legal e ≡ true
 legal-good Invalid s h = absurd (omega arith)
 legal-good Ignore s h = refl

@@ -1,4 +1,4 @@
--- The outline's numbers by their names.
+-- The outline's numbers by their names; states and actions stand as numbers where they are used.
 -- Assumes nothing.
 use Prim.Native.Nat.{ℕ}
 

@@ -1,4 +1,4 @@
--- The outline's section 'One outcome': the direction that a state needs and that a message asks for. 0 is none.
+-- The outline's sections 'The book' and 'One outcome': the direction that a state needs, and the one that a message asks for. 0 is none.
 -- Assumes nothing.
 use Prim.Native.Nat.{ℕ}
 use mathlib.Core.Bool.{Bool, cond, _||_}

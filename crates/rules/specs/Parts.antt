@@ -6,7 +6,7 @@ use lib.Dec.{eqb}
 use Rattle.rules.specs.declared.Entry.{Entry}
 use Rattle.rules.specs.declared.Entry.the-variants.{Invalid, Ignore, Move, Forget, Reply}
 
--- at an ended seat: its last word again, the send that ends it, that send again
+-- a seat's last word asked for again, the send that ends the seat, and that send again
 unfoldable pub lateOf : ℕ → ℕ → Bool → ℕ → Entry
 lateOf home word isSplit s = cond isSplit (cond (eqb s home) (Reply word) Ignore) (cond (eqb s 12) (Reply word) Invalid)
 

@@ -7,6 +7,7 @@ use native.Mathlib.Omega.{arith}
 use Rattle.rules.specs.declared.Entry.{Entry}
 use Rattle.rules.specs.Rules.{hasState, lineOf, entryOf}
 use Rattle.rules.specs.Laws.{has-state, entry-line}
+
 -- 32 places a role, 16 a table, the first of both at 0
 abbrev pub placeOf : ℕ → ℕ → ℕ → ℕ
 placeOf role table s = (32 * role + 16 * table + s + 16) % 64

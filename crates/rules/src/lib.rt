@@ -65,7 +65,7 @@ const STATES_TO_CLOSE: u64 = 0xfff6_1ff6_fd7e_1d7e;
 
 const STATES_TO_COMPENSATE: u64 = 0xfff6_1ff6_ffbe_1fbe;
 
-// What takes role, table and state, a byte each, to the number of their bit: states 16 places on, tables 12 and roles 21.
+// What takes role, table and state, a byte each, to the number of their bit, 16 bits up: states stand there, tables go 12 bits on and roles 21.
 const SPREAD: u64 = 0x20_1001;
 
 // The first role and the first table, as they stand in that number.
@@ -454,14 +454,14 @@ fn legal_marks(row: u64) -> u64
     }
 }
 
-// Whether the tables list the message at a place.
+// Whether the tables' lines have the message at a place, be it a state's or not.
 pub fn is_listed(place: u64, way: u8, m: u8) -> bool
     ensures { λ r. ⌜ r ≡ legal (entryAt place way m) ⌝ }
 {
     beyond(way, m) < (legal_marks(row(way, m)) >> (place % 64)) % 2
 }
 
-// What the tables say at a place.
+// What the tables' lines say at a place, be it a state's or not.
 pub fn placed_entry(place: u64, way: u8, m: u8) -> Entry
     ensures { λ r. ⌜ r ≡ entryAt place way m ⌝ }
 {

@@ -67,7 +67,7 @@ answerTo b e =
     cond (not (ltb (e .seat) (seatCount b))) (refused 11 0)
     (judged (lotOf b (e .seat)) (seatOf b (e .seat)) (e .way) (e .message))
 
--- a refused event leaves the book; another leaves the seat in the answer's state and its activity with a direction
+-- a refused event leaves the book; another leaves the seat in the answer's state and its activity with the direction given
 unfoldable pub turnedBook : List ℕ → ℕ → ℕ → Answer → List ℕ
 turnedBook b n direction a = cond (eqb (a .refusal) 0) (moved b n (a .state) direction) b
 

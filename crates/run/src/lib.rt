@@ -8,7 +8,6 @@ ghost use Rattle.book.specs.Book.{bookRefusal};
 ghost use Rattle.run.specs.Step.{refused, known, unlistedNumber, wanted, clashes, turned, answerTo, bookAfter, answerBytes, answerAt};
 ghost use Rattle.run.specs.Run.{after, filled, runRefusal, runBook, runAnswers};
 use book::Activity;
-use book::Seat;
 use records::Event;
 use rules::Answer;
 

@@ -14,7 +14,7 @@ const WHOLE_MOST: usize = 96;
 // The largest prime below 65,536, as zlib has it.
 const PRIME: u32 = 65521;
 
-// No contract can say what C writes, so each function that prints answers how many bytes it hands over.
+// No contract can say what C writes, so each function that prints answers how many bytes it hands over, or a part of them.
 
 pub fn number(n: usize) -> usize
     ensures { λ r. ⌜ Fewest 10 1 n r ⌝ }

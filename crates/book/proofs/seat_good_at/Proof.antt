@@ -1,6 +1,6 @@
 -- The seat that is read is the one that the definition tests.
 -- Assumes nothing.
-use Prim.Native.Nat.{ℕ, _-_}
+use Prim.Native.Nat.{ℕ}
 use Rattle.book.specs.declared.Seat.{Seat}
 use Rattle.book.specs.Book.{seatGood}
 use mathlib.Core.Path.{_∙_, ap}

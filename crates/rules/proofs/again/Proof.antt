@@ -1,3 +1,5 @@
+-- The code's tests are the definition's.
+-- Assumes nothing.
 use Rattle.rules.specs.Parts.{againOf}
 use borrow.Author.Tests.{eq-eqb, ne-eqb}
 use Rattle.rules.proofs.again.Statement.{statement}

@@ -1,3 +1,5 @@
+-- The code's tests are the definition's.
+-- Assumes nothing.
 use Rattle.rules.specs.Parts.{endsOf}
 use Rattle.rules.proofs.ends.Statement.{statement}
 use Rattle.rules.proofs.ends.Tie as tie

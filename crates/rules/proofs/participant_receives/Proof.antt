@@ -1,3 +1,5 @@
+-- Arm by arm: what the arm says is what the lines say at each state that reaches it (`Law`), a test that antt computes.
+-- Assumes nothing.
 use Rattle.rules.specs.Parts.{lateOf, endsOf, againOf}
 use mathlib.Core.Path.{_≡_, refl}
 use mathlib.Core.Bool.{Bool}
