@@ -1,3 +1,4 @@
+#![tactic(auto)]
 // The book: where its records stand, and whether it is good. No other crate knows its bytes.
 ghost use Rattle.std.specs.Prelude.{◌≡◌, true, false, ◌+◌, ◌*◌, ◌≤◌, ◌<◌, length};
 ghost use Rattle.book.specs.Layout.{head_size, activity_count, seat_count, size_of, activity_of, seat_of, put_state, put_direction, moved, Shaped};

@@ -1,3 +1,4 @@
+#![tactic(auto)]
 // The program's desk: from its whole input, a book and then a journal, to the whole text that it prints.
 ghost use Rattle.std.specs.Prelude.{◌≡◌, ◌++◌, ◌+◌, ◌*◌, ◌/◌, ◌%◌, ◌≤◌, ◌<◌, length, take, drop};
 ghost use Rattle.records.specs.Records.{events_of};

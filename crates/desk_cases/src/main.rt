@@ -1,3 +1,4 @@
+#![tactic(auto)]
 // Reads inputs of `lotend` from standard input, case after case, and prints `case N` and the report on each; of a report over 1,000
 // bytes `long`, its length and its sum. A case is the input's length in four little-endian bytes, and the input.
 ghost use Rattle.std.specs.Prelude.{◌≡◌, ◌≤◌, length};

@@ -1,3 +1,4 @@
+#![tactic(auto)]
 // Prints the numbers that include/lotend.h names, as the crates have them. What it must print is made from the header.
 use libc::STDOUT_FILENO;
 

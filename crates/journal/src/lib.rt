@@ -1,3 +1,4 @@
+#![tactic(auto)]
 // A journal: a text whose lines become event records. They are kept aside until the last line is good, so a refusal writes nothing.
 ghost use Rattle.std.specs.Prelude.{◌≡◌, ◌*◌, ◌≤◌, min, length};
 ghost use Rattle.line.specs.Quick.{aid_bytes};

@@ -1,3 +1,4 @@
+#![tactic(auto)]
 // Reads journals from standard input, case after case, and prints what `journal::read` makes of each: `N R L C` (the case, the
 // refusal, its line and the event count) and `area` with the area's bytes. A case is the text's length and the area's, in four
 // little-endian bytes each, and the text. The area is filled with 165 before the call.

@@ -1,3 +1,4 @@
+#![tactic(auto)]
 // One line of a journal: where its newline stands, and the event that it says or the number of its refusal.
 mod quick;
 

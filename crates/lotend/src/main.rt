@@ -1,3 +1,4 @@
+#![tactic(auto)]
 // Reads a book and a journal from standard input and prints the report on them.
 ghost use Rattle.std.specs.Prelude.{◌≡◌, length};
 ghost use Rattle.desk.specs.Theorems.{input_most};

@@ -1,3 +1,4 @@
+#![tactic(auto)]
 // The engine for C: include/lotend.h declares these functions. A slice is a pointer and then a length.
 ghost use Rattle.std.specs.Prelude.{◌≡◌, length};
 ghost use Rattle.run.specs.Run.{run_refusal, run_book, run_answers};

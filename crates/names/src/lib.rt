@@ -1,3 +1,4 @@
+#![tactic(auto)]
 // The words of a journal: the names of messages and of ways, each compared with the whole of a field.
 ghost use Rattle.std.specs.Prelude.{◌≡◌};
 ghost use Rattle.names.specs.Names.{same as sameBytes, named, message_named, way_named};

@@ -1,3 +1,4 @@
+#![tactic(auto)]
 // Numbers of 16 bits and records of four bytes, as they stand in lent bytes. An event is such a record.
 ghost use Rattle.std.specs.Prelude.{◌≡◌, [], ◌∷◌, ◌+◌, ◌*◌, ◌≤◌, ◌<◌, length};
 ghost use Rattle.records.specs.Records.{at16, placed, event_at, event_bytes};

@@ -1,3 +1,4 @@
+#![tactic(auto)]
 // The published tables: what a seat does with a message that it received or sends.
 pub mod message;
 pub mod state;

@@ -1,3 +1,4 @@
+#![tactic(auto)]
 // Prints what `rules` answers: every place of the tables, then roles, tables, ways, messages and states out of range too.
 ghost use Rattle.std.specs.Prelude.{◌≡◌, ◌≤◌, length};
 

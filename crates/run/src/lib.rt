@@ -1,3 +1,4 @@
+#![tactic(auto)]
 // One event, and a run over an event list.
 ghost use Rattle.std.specs.Prelude.{◌≡◌, ◌+◌, ◌*◌, ◌≤◌, ◌<◌, length};
 ghost use Rattle.records.specs.Records.{placed, first_events};

@@ -1,3 +1,4 @@
+#![tactic(auto)]
 // Reads runs from standard input, case after case, and prints what `run::run` makes of each: `N R` (the case and the refusal), `book`
 // and `answers` with the bytes afterwards. A case is the lengths of book, events and answer area, in four little-endian bytes each,
 // then the book and the events. The area is filled with 165 before the call.

@@ -1,3 +1,4 @@
+#![tactic(auto)]
 // What the programs that work cases share: the numbers at a case's head, an area to be written, and what they print: numbers, and
 // bytes one by one or, of many, as a sum.
 ghost use Rattle.std.specs.Prelude.{◌≡◌, ℕ, ◌+◌, ◌*◌, ◌≤◌, ◌<◌, length, get_or};

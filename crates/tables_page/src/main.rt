@@ -1,3 +1,4 @@
+#![tactic(auto)]
 // Prints docs/TABLES.md: the four tables, plain and split, as the proved rules have them.
 use libc::STDOUT_FILENO;
 use rules::Entry;

@@ -1,3 +1,4 @@
+#![tactic(auto)]
 // Text written into a lent area: bytes, words and numbers, each from a place on. Every function returns the place after what it wrote.
 ghost use Rattle.std.specs.Prelude.{[], ◌∷◌, ◌++◌, ◌+◌, ◌≤◌, ◌<◌, length, ◌≡◌};
 ghost use Rattle.text.specs.Text.{Put, decimal, digit as digitOf, digits_most, number_most, field_most};

@@ -1,3 +1,4 @@
+#![tactic(auto)]
 // Eight bytes taken at once as a number of 64 bits, so that they are compared in one step.
 ghost use Rattle.std.specs.Prelude.{◌≡◌, ◌+◌, ◌≤◌, ◌<◌, length, get_or};
 ghost use Rattle.words.specs.Words.{word_at};
