@@ -81,7 +81,7 @@ pub at_front : {a x b : List ℕ} {n : ℕ} → Put a 0 x b n → b ≡ x ++ dro
 unfolding placed
 at_front {a} {x} p = let z : 0 + length x ≡ length x = omega arith in p.bytes ∙ ap (λ (k : ℕ). x ++ drop k a) z
 
--- one byte stored, and a word copied to the rest of an area
+-- one byte stored, a word copied to the rest of an area, and one copied over as many bytes
 pub put_one : (a : List ℕ) (at b : ℕ) → at < length a → Put a at (b ∷ []) (set a at b) (at + 1)
 unfolding placed
 put_one a at b h =
@@ -99,6 +99,15 @@ put_copied a w p at h q =
     let l : length (drop at a) ≤ length a - at = omega (arith, length-drop at a) in
     record {
       bytes = rw (q, take-length w, take_all (length a - at) (drop at a) l, drop-drop (length w) at a, drop_of_length-le (drop at a) l, append-nil, append_assoc (take at a) w (drop (at + length w) a));
+      end = refl;
+      room = h;
+    }
+
+pub put_over : (a w : List ℕ) (at k : ℕ) → k ≡ length w → at + length w ≤ length a → Put a at w (take at a ++ (w ++ drop k (drop at a))) (at + length w)
+unfolding placed
+put_over a w at k e h =
+    record {
+      bytes = rw (e, drop-drop (length w) at a, append_assoc (take at a) w (drop (at + length w) a));
       end = refl;
       room = h;
     }

@@ -1,7 +1,7 @@
 #![tactic(auto)]
 // Text written into a lent area: bytes, words and numbers, each from a place on. Every function returns the place after what it wrote.
 ghost use Rattle.std.specs.Prelude.{[], ◌∷◌, ◌++◌, ◌+◌, ◌≤◌, ◌<◌, length, ◌≡◌};
-ghost use Rattle.text.specs.Text.{Put, decimal, digit as digitOf, digits_most, number_most, field_most};
+ghost use Rattle.text.specs.Text.{Put, decimal, digit as digit_of, digits_most, number_most, field_most};
 
 pub fn put_byte(area: &mut [u8], at: usize, byte: u8) -> usize
     requires { at < length area.old }
@@ -15,13 +15,13 @@ pub fn put_word(area: &mut [u8], at: usize, word: &[u8]) -> usize
     requires { at + length word.now ≤ length area.old }
     ensures { Put area.old at word.now area.new result }
 {
-    bytes::copy(word, &mut area[at..]);
+    area[at..at + word.len()].copy_from_slice(word);
     at + word.len()
 }
 
 fn digit(n: usize) -> u8
     requires { n < 10 }
-    ensures { result ≡ digitOf n }
+    ensures { result ≡ digit_of n }
 {
     b'0' + (n as u8)
 }
