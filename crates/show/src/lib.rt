@@ -7,7 +7,10 @@ ghost use Rattle.records.specs.Records.{at16};
 ghost use Rattle.show.specs.Adler.{adler};
 ghost use Rattle.show.specs.Shown.{shown};
 
-use libc::STDOUT_FILENO;
+// The standard streams, by the number that each has.
+pub const STDIN: i32 = 0;
+
+pub const STDOUT: i32 = 1;
 
 // As many bytes as are shown one by one.
 const WHOLE_MOST: usize = 96;
@@ -21,21 +24,21 @@ pub fn number(n: usize) -> usize
 {
     let mut text = [0u8; 20];
     let k = io::decimal(n as u64, &mut text);
-    io::write_all(STDOUT_FILENO, &text[..k]);
+    io::write_all(STDOUT, &text[..k]);
     k
 }
 
 pub fn space() -> usize
     ensures { result ≡ 1 }
 {
-    io::write_all(STDOUT_FILENO, b" ");
+    io::write_all(STDOUT, b" ");
     1
 }
 
 pub fn line_end() -> usize
     ensures { result ≡ 1 }
 {
-    io::write_all(STDOUT_FILENO, b"\n");
+    io::write_all(STDOUT, b"\n");
     1
 }
 
@@ -48,8 +51,8 @@ pub fn bytes(part: &[u8]) -> usize
     number(n);
     space();
     if WHOLE_MOST < n {
-        io::write_all(STDOUT_FILENO, b"#");
-        io::print_hex(STDOUT_FILENO, adler32(part) as u64, 8);
+        io::write_all(STDOUT, b"#");
+        io::print_hex(STDOUT, adler32(part) as u64, 8);
         9
     } else {
         each(part);
@@ -60,7 +63,7 @@ pub fn bytes(part: &[u8]) -> usize
 fn each(part: &[u8]) {
     let mut i = 0;
     while i < part.len() {
-        io::print_hex(STDOUT_FILENO, part[i] as u64, 2);
+        io::print_hex(STDOUT, part[i] as u64, 2);
         i += 1;
     }
 }
