@@ -6,12 +6,10 @@ use mathlib.Core.Logic.{⊎_elim}
 use Prim.Native.Nat.{ℕ, ◌+◌, ◌*◌, ◌≤◌, ◌<◌}
 use native.Mathlib.Omega.{arith}
 use lib.Dec.{eqb, leb}
-use borrow.Author.Rules.{rules}
 use borrow.Author.Tests.{eq-eqb, ne_eqb, le-leb, lt-leb}
 use Rattle.lemmas.specs.Orders.{same_or, below_or}
 use Rattle.book.specs.Book.{activity_good}
-use Rattle.book.proofs.activity_good.Statement.{statement}
-use Rattle.book.proofs.activity_good.Tie as tie
+use Rattle.book.proofs.activity_good.Goals as goal
 
 module _ (kind d : ℕ) where
   one : kind ≡ 1 → leb (2 * kind + d) 4 ≡ leb d 2
@@ -37,9 +35,6 @@ module _ (kind d : ℕ) where
       (same_or kind 2))
       (same_or kind 1)
 
-returns : tie.Need-returns
+pub returns : goal.returns
 unfolding activity_good
 returns c = sum-good c.args.kind c.args.direction
-
-pub activity-good-spec : {M : Type 1} → statement M
-activity-good-spec = tie.close (tie.spec (λ c. search rules) (λ c. search rules) returns)

@@ -1,0 +1,13 @@
+-- Two stores, and the second finds the header that the first left.
+-- Assumes nothing.
+use mathlib.Core.Path.{sym, ap, subst}
+use native.Mathlib.Omega.{arith}
+use Rattle.book.specs.Layout.{Shaped, activity_count}
+use Rattle.book.specs.Lens.{state_shaped, state_at16}
+use Rattle.book.proofs.put_outcome.Goals as goal
+
+pub put_direction-requires : goal.put_direction-requires
+put_direction-requires c =
+    let x = c.args in
+    let pre = c.requires in
+    let e = c.put_state.ensures in record { shaped = subst Shaped (sym e) (state_shaped _ _ _ pre.shaped); k_bound = omega (arith, ap activity_count e, state_at16 _ x.n x.state pre.shaped 0 (omega arith), pre.k_value.1) }

@@ -1,0 +1,14 @@
+-- A walk that is left at the first record that fails: what was passed is good, and the end tells whether all were.
+-- Assumes nothing.
+use Rattle.lemmas.specs.Walks.{every}
+use Prim.Native.Nat.{◌-◌, ◌≤◌}
+use Rattle.book.specs.Book.{fits_at}
+use mathlib.Core.Bool.{true}
+use mathlib.Core.Path.{◌≡◌}
+use Rattle.book.proofs.seats_fit.Given as goal
+
+abbrev pub invariant-walk : goal.invariant-walk
+invariant-walk l = (l.i ≤ l.s) × (every (fits_at l.book) l.i ≡ true)
+
+abbrev pub decreases-walk : goal.decreases-walk
+decreases-walk l = l.s - l.i

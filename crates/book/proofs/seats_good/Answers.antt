@@ -1,0 +1,24 @@
+-- A walk that is left at the first record that fails: what was passed is good, and the end tells whether all were.
+-- Assumes nothing.
+use borrow.Author.Rules.{rules}
+use Rattle.lemmas.specs.Walks.{every_none, every_more, walk_end, walk_left}
+use native.Mathlib.Omega.{arith}
+use Rattle.book.specs.Book.{seats_good}
+use mathlib.Core.Path.{sym, ◌∙◌}
+use Rattle.book.proofs.seats_good.Goals as goal
+use Rattle.book.proofs.seats_good.Goals.{else-walk-test, then-walk-test+then-not-seat_good_at}
+
+pub walk-init : goal.walk-init
+walk-init c = (search rules, every_none _)
+
+pub seat_good_at-requires : goal.seat_good_at-requires
+seat_good_at-requires c = record { shaped = c.requires; n_bound = omega arith }
+
+pub walk-preserved : goal.walk-preserved
+walk-preserved c = (omega arith, every_more _ _ c.walk.invariant.1 (sym c.seat_good_at.ensures ∙ c.if-not-seat_good_at.false))
+
+pub returns : goal.returns
+unfolding seats_good
+returns c = let e = c.seat_count-s.ensures.value in
+    let v = c.walk.invariant in
+    elim c.walk-test.branch [ else-walk-test w ↦ walk_end _ _ e v.0 v.1 w.walk-test.false | then-walk-test+then-not-seat_good_at w ↦ walk_left _ _ e w.walk-test.true (sym w.seat_good_at.ensures ∙ w.if-not-seat_good_at.true) ]
