@@ -2,8 +2,8 @@
 // Prints what `rules` answers: every place of the tables, then roles, tables, ways, messages and states out of range too.
 ghost use Rattle.std.specs.Prelude.{◌≡◌, ◌≤◌, length};
 
-use libc::STDOUT_FILENO;
 use rules::Answer;
+use show::STDOUT;
 
 fn main() {
     tables();
@@ -15,7 +15,7 @@ fn main() {
 }
 
 fn write(text: &[u8]) {
-    io::write_all(STDOUT_FILENO, text);
+    io::write_all(STDOUT, text);
 }
 
 fn byte(x: u8) {
@@ -153,7 +153,7 @@ fn legal_count(role: u8, table: u8, area: &mut [u8; 77824]) {
     show::space();
     show::number(legal);
     show::space();
-    io::print_hex(STDOUT_FILENO, show::adler32(area) as u64, 8);
+    io::print_hex(STDOUT, show::adler32(area) as u64, 8);
     show::line_end();
 }
 

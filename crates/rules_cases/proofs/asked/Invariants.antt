@@ -1,0 +1,10 @@
+-- Safe and ends: the counter goes up to its bound.
+-- Assumes nothing.
+use Rattle.std.proofs.Common.{◌≤◌, ◌-◌}
+use Rattle.rules_cases.proofs.asked.Given as goal
+
+abbrev pub invariant-loop-i : goal.invariant-loop-i
+invariant-loop-i l = l.i ≤ 256
+
+abbrev pub decreases-loop-i : goal.decreases-loop-i
+decreases-loop-i l = 256 - l.i
