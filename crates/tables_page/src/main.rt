@@ -1,7 +1,7 @@
 #![tactic(auto)]
 // Prints docs/TABLES.md: the four tables, plain and split, as the proved rules have them.
-use libc::STDOUT_FILENO;
 use rules::Entry;
+use show::STDOUT;
 
 fn main() {
     write(b"# The tables, as the engine has them\n\nStates stand across and messages down. ");
@@ -18,7 +18,7 @@ fn main() {
 }
 
 fn write(text: &[u8]) {
-    io::write_all(STDOUT_FILENO, text);
+    io::write_all(STDOUT, text);
 }
 
 fn page(role: u8, way: u8, table: u8) {
