@@ -16,13 +16,11 @@ use Rattle.line.specs.Places.{tail}
 use Rattle.line.specs.Quick.{guesses, with_row, rows_to, aid_bytes}
 
 -- a part that is copied to a place
-pub put_is :
-    (l part mid : List ℕ) (at : ℕ) → at ≤ length l → mid ≡ take (length part) part ++ drop (length part) (take (length l - at) (drop at l))
-    → take at l ++ (mid ++ drop (length l - at) (drop at l)) ≡ placed l at part
+pub put_is : (l part mid : List ℕ) (at : ℕ) → mid ≡ part → take at l ++ (mid ++ drop (at + length part - at) (drop at l)) ≡ placed l at part
 unfolding placed
-put_is l part mid at h e =
-    let none : drop (length l - at) (drop at l) ≡ [] = drop_of_length-le (drop at l) {i = length l - at} (simp length-drop (omega arith)) in
-    rw (none, append-nil, e, tail at l, take-length part, drop-drop (length part) at l) (sym (append_assoc (take at l) part (drop (at + length part) l)))
+put_is l part mid at e =
+    let z : at + length part - at ≡ length part = omega arith in
+    rw (z, e, drop-drop (length part) at l) (sym (append_assoc (take at l) part (drop (at + length part) l)))
 
 -- row by row
 pub rows_on : (m : ℕ) → 1 ≤ m → rows_to m ≡ with_row (rows_to (m - 1)) m (name_of m)

@@ -56,7 +56,7 @@ pub enum Quick {
 }
 
 // What digits say, and how many they are.
-#[derive(Drop)]
+#[derive(Clone, Copy)]
 pub struct Number {
     pub value: usize,
     pub size: usize,
@@ -113,7 +113,7 @@ fn put(aids: &mut [u8], at: usize, part: &[u8])
     ensures bytes { aids.new ≡ placed aids.old at part.now }
     ensures size { length aids.new ≡ length aids.old }
 {
-    bytes::copy(part, &mut aids[at..]);
+    aids[at..at + part.len()].copy_from_slice(part);
 }
 
 // The line that the text begins with, where it is found good. A guess is only where to look: each byte of the line is compared.
