@@ -5,13 +5,13 @@ ghost use Rattle.book.specs.Layout.{head_size, activity_count, seat_count, size_
 ghost use Rattle.book.specs.Marks.{seat_marks, Marked};
 ghost use Rattle.book.specs.Book.{activity_good, seat_good, activity_good_at, seat_good_at, fits_at, numbers_good, head_good, activities_good, seats_good, seats_fit, seats_refusal, records_refusal, book_refusal};
 
-#[derive(Drop)]
+#[derive(Clone, Copy)]
 pub struct Activity {
     pub kind: u8,
     pub direction: u8,
 }
 
-#[derive(Drop)]
+#[derive(Clone, Copy)]
 pub struct Seat {
     pub activity: usize,
     pub role: u8,

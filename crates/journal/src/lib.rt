@@ -18,7 +18,7 @@ pub const REFUSED_LINE_ROOM: u8 = 25;
 pub const REFUSED_TEXT_LONG: u8 = 26;
 
 // A good read has refusal 0 and line 0. A refusal has its line's number, counted from 1, and count 0.
-#[derive(Drop)]
+#[derive(Clone, Copy)]
 pub struct Reading {
     pub refusal: u8,
     pub line: usize,

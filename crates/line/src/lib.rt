@@ -30,21 +30,21 @@ pub const REFUSED_LINE_WAY: u8 = 23;
 
 pub const REFUSED_LINE_NAME: u8 = 24;
 
-#[derive(Drop)]
+#[derive(Clone, Copy)]
 pub enum Line {
     Good(Event),
     Refused(u8),
 }
 
 // A seat's number and how many bytes say it.
-#[derive(Drop)]
+#[derive(Clone, Copy)]
 enum Seat {
     At { number: usize, size: usize },
     Nothing,
 }
 
 // What a line says, and the place of its newline.
-#[derive(Drop)]
+#[derive(Clone, Copy)]
 pub struct NextLine {
     pub said: Line,
     pub size: usize,

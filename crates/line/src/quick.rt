@@ -49,7 +49,7 @@ const SPREAD: usize = 9;
 const MASKS: usize = 288;
 
 // A line that was found good, with the place of its newline.
-#[derive(Drop)]
+#[derive(Clone, Copy)]
 pub enum Quick {
     Read { event: Event, size: usize },
     Unread,

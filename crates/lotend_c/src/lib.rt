@@ -5,7 +5,7 @@ ghost use Rattle.run.specs.Run.{run_refusal, run_book, run_answers};
 ghost use Rattle.journal.specs.Journal.{reading, area_after};
 
 #[repr(C)]
-#[derive(Drop)]
+#[derive(Clone, Copy)]
 pub struct Reading {
     pub refusal: u32,
     pub line: u32,

@@ -5,7 +5,7 @@ ghost use Rattle.records.specs.Records.{at16, placed, event_at, event_bytes};
 
 pub const EVENT_SIZE: usize = 4;
 
-#[derive(Drop)]
+#[derive(Clone, Copy)]
 pub struct Event {
     pub seat: usize,
     pub way: u8,

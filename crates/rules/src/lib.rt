@@ -13,7 +13,7 @@ ghost use Rattle.rules.specs.Marks.{marked_in, suiting_marks};
 ghost use Rattle.rules.specs.Rows.{row_of, beyond_rows, moved_marks, legal_rows};
 
 // What a table says of a state and a message.
-#[derive(Drop)]
+#[derive(Clone, Copy)]
 pub enum Entry {
     Invalid,
     Ignore,
@@ -23,7 +23,7 @@ pub enum Entry {
 }
 
 // An answer in the outline's numbers.
-#[derive(Drop)]
+#[derive(Clone, Copy)]
 pub struct Answer {
     pub refusal: u8,
     pub state: u8,
