@@ -2,7 +2,7 @@
 -- Assumes nothing.
 use Rattle.std.proofs.Common.{◌≡◌, ℕ, ◌-◌, ◌<◌, ◌≤◌, Bool, true, false, cond, ◌&&◌, ◌||◌, T, eqb, List, [], ◌∷◌, sym, refl, ap, ◌∙◌, subst, inl, inr, ⊎_elim, arith, eqb→eq, ne_eqb}
 use mir.Val.{has_key}
-use mir.Facts.{and_yes, or_yes}
+use Rattle.std.proofs.Math.Facts.{and_yes, or_yes}
 use types.Run.{OneOf, hit}
 use Rattle.lemmas.specs.Ranges.{each, each_at}
 use Rattle.rules.specs.declared.Entry.{Entry}

@@ -1,7 +1,7 @@
 -- The tests are those of `Places`: in range the bit at the place, else nothing is marked.
 -- Assumes nothing.
 use Rattle.std.proofs.Common.{◌≡◌, ℕ, ◌/◌, ◌%◌, ◌^◌, ◌<◌, ◌≤◌, true, ◌&&◌, eqb, ltb, leb, sym, ap, ◌∙◌, arith, ltb-true, lt-ltb, le-leb, leb-true}
-use mathlib.Core.Bool.{false≢true}
+use Rattle.std.proofs.lemmas.Bool.{false≢true}
 use Rattle.lemmas.specs.Bools.{both, both_of}
 use Rattle.rules.specs.Marks.{Ranged, unmarked, marked_place}
 use Rattle.rules.proofs.Places.{place_in, in_place, place_is}

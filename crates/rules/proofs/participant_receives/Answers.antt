@@ -1,7 +1,7 @@
 -- Arm by arm: what the arm says is what the lines say at each state that reaches it (`Law`), a test that antt computes.
 -- Assumes nothing.
 use Rattle.rules.specs.Parts.{late_of}
-use Rattle.std.proofs.Common.{◌≡◌, ℕ, Bool, [], ◌∷◌, refl, arith, rules}
+use Rattle.std.proofs.Common.{◌≡◌, ℕ, Bool, List, [], ◌∷◌, refl, arith, rules}
 use Rattle.rules.specs.Tables.{participant_receives, participant_receives_lines, look, as_received}
 use Rattle.rules.proofs.Law.{Table, arm, span, span_of, rest, either, is_split, is_plain}
 use Rattle.rules.proofs.participant_receives.Goals as goal
@@ -9,6 +9,13 @@ use Rattle.rules.proofs.participant_receives.Goals as goal
 lines_are : (b : Bool) (m s : ℕ) → participant_receives b m s ≡ as_received s (look participant_receives_lines b m s)
 unfolding participant_receives
 lines_are b m s = refl
+
+-- the single states among the arms of a Cancel and of a Complete, in the arms' order
+abbrev canceling : List (List ℕ)
+canceling = (1 ∷ 4 ∷ []) ∷ (2 ∷ 9 ∷ []) ∷ (5 ∷ []) ∷ (8 ∷ []) ∷ (10 ∷ []) ∷ (11 ∷ []) ∷ []
+
+abbrev completing : List (List ℕ)
+completing = (1 ∷ []) ∷ (2 ∷ 4 ∷ 9 ∷ []) ∷ (5 ∷ []) ∷ (8 ∷ []) ∷ (10 ∷ []) ∷ (11 ∷ []) ∷ (12 ∷ []) ∷ []
 
 abbrev table : Table participant_receives
 table = record { lines = participant_receives_lines; way = as_received; is = lines_are; invalid = λ s. refl }
@@ -36,11 +43,11 @@ returns-in-11 c =
 pub returns-in-12-to-15 : goal.returns-in-12-to-15
 unfolding late_of
 returns-in-12-to-15 c =
-    span_of table (late_of 13 12) 1 8 16 ((1 ∷ 4 ∷ []) ∷ (2 ∷ 9 ∷ []) ∷ (5 ∷ []) ∷ (8 ∷ []) ∷ (10 ∷ []) ∷ (11 ∷ []) ∷ []) either (search rules) (omega arith) (search rules) tt
+    span_of table (late_of 13 12) 1 8 16 canceling either (search rules) (omega arith) (search rules) tt
 
 pub returns-in_default-s : goal.returns-in_default-s
 returns-in_default-s c =
-    span table 1 0 4 ((1 ∷ 4 ∷ []) ∷ (2 ∷ 9 ∷ []) ∷ (5 ∷ []) ∷ (8 ∷ []) ∷ (10 ∷ []) ∷ (11 ∷ []) ∷ []) either (omega arith) (search rules) tt
+    span table 1 0 4 canceling either (omega arith) (search rules) tt
 
 pub returns-in-2-s : goal.returns-in-2-s
 returns-in-2-s c =
@@ -48,7 +55,7 @@ returns-in-2-s c =
 
 pub returns-in-2-s-3 : goal.returns-in-2-s-3
 returns-in-2-s-3 c =
-    span table 1 4 8 ((1 ∷ 4 ∷ []) ∷ (2 ∷ 9 ∷ []) ∷ (5 ∷ []) ∷ (8 ∷ []) ∷ (10 ∷ []) ∷ (11 ∷ []) ∷ []) either (omega arith) (search rules) tt
+    span table 1 4 8 canceling either (omega arith) (search rules) tt
 
 pub returns-in-1-s-2 : goal.returns-in-1-s-2
 returns-in-1-s-2 c =
@@ -80,15 +87,15 @@ returns-else-split c =
 
 pub returns-then-split-2 : goal.returns-then-split-2
 returns-then-split-2 c =
-    span table 2 8 16 ((1 ∷ []) ∷ (2 ∷ 4 ∷ 9 ∷ []) ∷ (5 ∷ []) ∷ (8 ∷ []) ∷ (10 ∷ []) ∷ (11 ∷ []) ∷ (12 ∷ []) ∷ []) (is_split (search rules)) (omega arith) (search rules) tt
+    span table 2 8 16 completing (is_split (search rules)) (omega arith) (search rules) tt
 
 pub returns-else-split-2 : goal.returns-else-split-2
 returns-else-split-2 c =
-    span table 2 8 16 ((1 ∷ []) ∷ (2 ∷ 4 ∷ 9 ∷ []) ∷ (5 ∷ []) ∷ (8 ∷ []) ∷ (10 ∷ []) ∷ (11 ∷ []) ∷ (12 ∷ []) ∷ []) (is_plain (search rules)) (omega arith) (search rules) tt
+    span table 2 8 16 completing (is_plain (search rules)) (omega arith) (search rules) tt
 
 pub returns-in_default-s-2 : goal.returns-in_default-s-2
 returns-in_default-s-2 c =
-    span table 2 0 4 ((1 ∷ []) ∷ (2 ∷ 4 ∷ 9 ∷ []) ∷ (5 ∷ []) ∷ (8 ∷ []) ∷ (10 ∷ []) ∷ (11 ∷ []) ∷ (12 ∷ []) ∷ []) either (omega arith) (search rules) tt
+    span table 2 0 4 completing either (omega arith) (search rules) tt
 
 pub returns-in-2-s-2 : goal.returns-in-2-s-2
 returns-in-2-s-2 c =
@@ -96,7 +103,7 @@ returns-in-2-s-2 c =
 
 pub returns-in-2-s-2-2 : goal.returns-in-2-s-2-2
 returns-in-2-s-2-2 c =
-    span table 2 4 8 ((1 ∷ []) ∷ (2 ∷ 4 ∷ 9 ∷ []) ∷ (5 ∷ []) ∷ (8 ∷ []) ∷ (10 ∷ []) ∷ (11 ∷ []) ∷ (12 ∷ []) ∷ []) either (omega arith) (search rules) tt
+    span table 2 4 8 completing either (omega arith) (search rules) tt
 
 pub returns-in-5-s-3 : goal.returns-in-5-s-3
 returns-in-5-s-3 c =

@@ -1,7 +1,7 @@
 -- The way and the role pick the rule that the definition picks; a table counts from 1 there and from 0 here.
 -- Assumes nothing.
 use Rattle.std.proofs.Common.{◌≡◌, ℕ, ◌+◌, ◌/◌, ◌%◌, Bool, true, false, eqb, refl, ◌∙◌, arith, eq-eqb, ne_eqb, eqb-true}
-use borrow.Author.Tests.{eqb-false}
+use Rattle.std.proofs.lemmas.Bool.{eqb-false}
 use Rattle.rules.specs.Rules.{line_of}
 use Rattle.rules.specs.Place.{role_at, table_at, entry_at}
 use Rattle.rules.proofs.placed_entry.Goals as goal
