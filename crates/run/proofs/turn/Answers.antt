@@ -4,13 +4,11 @@ use mathlib.Core.Path.{◌≡◌, sym, ◌∙◌, ap}
 use mathlib.Core.List.{List}
 use Prim.Native.Nat.{ℕ, ◌<◌}
 use native.Mathlib.Omega.{arith}
-use borrow.Author.Rules.{rules}
 use borrow.Author.Tests.{eq-eqb, ne_eqb}
 use Rattle.book.specs.Layout.{activity_count, activity_of, seat_of, put_state, moved, Shaped}
 use Rattle.book.specs.Lens.{moved_kept}
 use Rattle.run.specs.Step.{turned}
-use Rattle.run.proofs.turn.Statement.{statement}
-use Rattle.run.proofs.turn.Tie as tie
+use Rattle.run.proofs.turn.Goals as goal
 
 module _ (b : List ℕ) (n k state direction : ℕ) where
   abbrev after : List ℕ
@@ -26,16 +24,12 @@ module _ (b : List ℕ) (n k state direction : ℕ) where
   unfolding turned
   given nz is_b = is_b ∙ sym (simp (ne_eqb direction 0 nz))
 
-pub turn_spec : {M : Type 1} → statement M
-turn_spec =
-    tie.close
-    (tie.spec
-    (λ c κs. search rules)
-    (λ c κs. search rules)
-    (λ c. search rules)
-    (λ c.
-    let x = c.before.before.before.before.before.before.args in
-    let p = c.before.before.before.before.before.before.requires in
-    kept x.book.now x.n x.k x.state x.direction p.0 p.1.1.0 p.1.1.1 c.before.before.before.before.if1.true c.before.before.put-state.ensures)
-    (λ c. search rules)
-    (λ c. let x = c.before.before.before.before.before.before.args in given x.book.now x.n x.k x.state x.direction c.before.before.before.before.if1.false c.before.before.put-outcome.ensures))
+pub returns-then-direction-eq-DIRECTION_NONE : goal.returns-then-direction-eq-DIRECTION_NONE
+returns-then-direction-eq-DIRECTION_NONE c =
+    let x = c.args in
+    let p = c.requires in
+    kept x.book.now x.n x.k x.state x.direction p.shaped p.k_value.0 p.k_value.1 c.if-direction-eq-DIRECTION_NONE.true c.put_state.ensures
+
+pub returns-else-direction-eq-DIRECTION_NONE : goal.returns-else-direction-eq-DIRECTION_NONE
+returns-else-direction-eq-DIRECTION_NONE c =
+    let x = c.args in given x.book.now x.n x.k x.state x.direction c.if-direction-eq-DIRECTION_NONE.false c.put_outcome.ensures

@@ -4,12 +4,10 @@ use mathlib.Core.Path.{◌≡◌}
 use Prim.Native.Nat.{ℕ, ◌+◌, ◌≤◌}
 use native.Mathlib.Omega.{arith}
 use lib.Dec.{T, eqb}
-use borrow.Author.Rules.{rules}
 use Rattle.lemmas.specs.Bools.{same, same_is}
 use Rattle.lemmas.specs.Ranges.{each, each_at}
 use Rattle.run.specs.Step.{clashes}
-use Rattle.run.proofs.clash.Statement.{statement}
-use Rattle.run.proofs.clash.Tie as tie
+use Rattle.run.proofs.clash.Goals as goal
 
 threes : T (each (λ d. each (λ w. same (eqb (d + w) 3) (clashes d w)) 0 3) 0 3)
 unfolding clashes
@@ -22,10 +20,6 @@ three d w p q =
     (each_at (λ d. each (λ w. same (eqb (d + w) 3) (clashes d w)) 0 3) 3 0 threes d (omega arith) (omega arith))
     w (omega arith) (omega arith))
 
-pub clash-spec : {M : Type 1} → statement M
-clash-spec =
-    tie.close
-    (tie.spec
-    (λ c. record { fits = omega (arith, c.requires.0, c.requires.1) })
-    (λ c. search rules)
-    (λ c. three c.args.direction c.args.want c.requires.0 c.requires.1))
+pub returns : goal.returns
+returns c =
+    three c.args.direction c.args.want c.requires.0 c.requires.1

@@ -1,0 +1,9 @@
+-- The fields are read where the definition reads them.
+-- Assumes nothing.
+use mathlib.Core.Path.{refl}
+use Rattle.run.specs.Step.{answer_at}
+use Rattle.run.proofs.read_answer.Goals as goal
+
+pub returns : goal.returns
+unfolding answer_at
+returns c = refl

@@ -1,0 +1,16 @@
+-- After i turns the book and the area are those after the first i events; the book is good all along (`run_good`).
+-- Assumes nothing.
+use Prim.Native.Nat.{◌≤◌, ◌-◌}
+use mathlib.Core.Path.{◌≡◌}
+use lib.ListN.{length}
+use Rattle.records.specs.Records.{first_events}
+use Rattle.run.specs.Run.{after, filled}
+use Rattle.run.proofs.work.Given as goal
+
+abbrev pub invariant-loop-i : goal.invariant-loop-i
+invariant-loop-i l =
+    (l.i ≤ l.count) × (length l.book ≡ length l.fn.book) × (length l.area ≡ length l.fn.area)
+    × (l.book ≡ after l.fn.book (first_events l.events l.i)) × (l.area ≡ filled l.fn.book l.events l.fn.area l.i)
+
+abbrev pub decreases-loop-i : goal.decreases-loop-i
+decreases-loop-i l = l.count - l.i
