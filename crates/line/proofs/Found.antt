@@ -14,7 +14,7 @@ use Rattle.records.specs.declared.Event.{Event}
 use Rattle.words.specs.Words.{word_at}
 use Rattle.words.specs.Laws.{Bytes, bytes_are, same_lower, same_masked}
 use Rattle.names.specs.Names.{bytes, name_of, way_name}
-use Rattle.line.specs.Grammar.{newline, space, line_most, index_of, well_begun, value, is_seat, line_of}
+use Rattle.line.specs.Grammar.{newline, space, line_most, index_of, well_begun, is_seat, line_of}
 use Rattle.line.specs.Places.{index_take, index_within}
 use Rattle.line.specs.Cuts.{index_free}
 use Rattle.line.specs.Reads.{last_two, fields_from, event, fields_whole, fields_most, fields_line}

@@ -2,8 +2,7 @@
 -- The argument: each of the sixteen rows has a count of letters that no name has, or is the row of its own message; and the mask of
 -- each count of letters is that of the name with its newline. Both are computed.
 -- Assumes nothing.
-use Rattle.std.proofs.Common.{◌≡◌, ℕ, zero, suc, ◌+◌, ◌-◌, ◌*◌, ◌^◌, ◌<◌, ◌≤◌, min, Bool, true, ◌&&◌, ◌||◌, eqb, ltb, leb, List, [], ◌∷◌, ◌++◌, length, get_or, take, drop, replicate, sym, refl, ap, ◌∙◌, ⊎_elim, append_assoc, append-nil, arith, length-drop, drop_of_length-le, drop-drop, ltb-true, eqb-true, leb-true}
-use lib.Seq.{take-length}
+use Rattle.std.proofs.Common.{◌≡◌, ℕ, zero, suc, ◌+◌, ◌-◌, ◌*◌, ◌^◌, ◌<◌, ◌≤◌, min, Bool, true, ◌&&◌, ◌||◌, eqb, ltb, leb, List, [], ◌∷◌, ◌++◌, length, get_or, take, drop, replicate, sym, refl, ap, ◌∙◌, ⊎_elim, append_assoc, arith, drop-drop, ltb-true, eqb-true, leb-true}
 use mir.Facts.{eqb_yes}
 use Rattle.lemmas.specs.Bools.{both, either, T_is}
 use Rattle.lemmas.specs.Ranges.{each_at}
@@ -12,7 +11,6 @@ use Rattle.words.specs.Words.{word_at}
 use Rattle.names.specs.Names.{name_of, same}
 use Rattle.names.specs.Laws.{same_is}
 use Rattle.line.specs.Grammar.{newline}
-use Rattle.line.specs.Places.{tail}
 use Rattle.line.specs.Quick.{guesses, with_row, rows_to, aid_bytes}
 
 -- a part that is copied to a place

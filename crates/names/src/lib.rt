@@ -1,7 +1,7 @@
 #![tactic(auto)]
 // The words of a journal: the names of messages and of ways, each compared with the whole of a field.
 ghost use Rattle.std.specs.Prelude.{◌≡◌};
-ghost use Rattle.names.specs.Names.{same as sameBytes, named, message_named, way_named};
+ghost use Rattle.names.specs.Names.{same as same_bytes, named, message_named, way_named};
 
 const NO_MESSAGE: u8 = 0;
 
@@ -47,7 +47,7 @@ fn or_named(part: &[u8], name: &[u8], k: u8, others: u8) -> u8
 }
 
 fn same(a: &[u8], b: &[u8]) -> bool
-    ensures { result ≡ sameBytes a.now b.now }
+    ensures { result ≡ same_bytes a.now b.now }
 {
     if a.len() != b.len() {
         return false;

@@ -1,6 +1,6 @@
 -- `line::fields` meets its contract: a seat and a space, and the rest is the second function's.
 -- Assumes nothing.
-use Rattle.std.proofs.Common.{◌≡◌, ◌+◌, ◌<◌, ℕ, List, length, sym, ap, ◌∙◌, arith}
+use Rattle.std.proofs.Common.{◌+◌, sym, ap, ◌∙◌, arith}
 use Rattle.line.specs.Grammar.{second_of}
 use Rattle.line.specs.Places.{tail}
 use Rattle.line.proofs.Steps.{first_none, first_within, first_at}

@@ -1,9 +1,10 @@
 -- `line::first` meets its contract: what can't begin a seat is left at once, and of the rest the digits decide.
 -- Assumes nothing.
-use Rattle.std.proofs.Common.{sym, ◌∙◌, inl, inr, arith}
+use Rattle.std.proofs.Common.{◌≡◌, ◌⊎◌, get_or, sym, ◌∙◌, arith}
+use Rattle.std.proofs.lemmas.Grind.{common_steps}
+use Rattle.line.specs.Grammar.{space}
 use Rattle.line.proofs.Decimal.{too_short, no_byte, zero_leads, begun}
 use Rattle.line.proofs.first.Goals as goal
-use Rattle.line.proofs.first.Goals.{then-body-eq-ZERO+else-body-ne-SPACE, else-body-eq-ZERO}
 
 pub returns-then-body-lt2 : goal.returns-then-body-lt2
 returns-then-body-lt2 c = sym (too_short c.args.body.now (omega arith))
@@ -16,6 +17,6 @@ returns-then-body-ne-SPACE c = sym (zero_leads c.args.body.now (omega arith) (om
 
 pub returns : goal.returns
 returns c =
-    c.digits.ensures
-    ∙ sym (begun c.args.body.now (omega arith) c.if-body-eq-SPACE.false
-    (elim c.if-body-eq-ZERO.branch [ then-body-eq-ZERO+else-body-ne-SPACE w ↦ inr w.if-body-ne-SPACE.false | else-body-eq-ZERO w ↦ inl w.if-body-eq-ZERO.false ]))
+    let b = c.args.body.now in
+    let begins : (get_or b 0 0 ≡ 48 → ⊥) ⊎ (get_or b 1 0 ≡ space) = grind (arith, common_steps) in
+    c.digits.ensures ∙ sym (begun b (omega arith) c.if-body-eq-SPACE.false begins)

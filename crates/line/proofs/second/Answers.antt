@@ -1,13 +1,10 @@
 -- `line::second` meets its contract: a way and a space, and the rest is the third function's.
 -- Assumes nothing.
-use Rattle.std.proofs.Common.{◌+◌, sym, ap, ◌∙◌, length-take-le}
+use Rattle.std.proofs.Common.{◌+◌, sym, ap, ◌∙◌}
 use Rattle.line.specs.Grammar.{third_of}
 use Rattle.line.specs.Places.{tail}
 use Rattle.line.proofs.Steps.{second_none, second_bad, second_good}
 use Rattle.line.proofs.second.Goals as goal
-
-pub slice_bounds-way_named-end : goal.slice_bounds-way_named-end
-slice_bounds-way_named-end c = sym (length-take-le _ _ c.find-at.ensures.within)
 
 pub returns-then-way-gt1 : goal.returns-then-way-gt1
 returns-then-way-gt1 c =

@@ -13,5 +13,6 @@ put_row-requires-clause-before c = refl
 pub returns : goal.returns
 returns c =
     c.put-2.ensures.bytes
-    ∙ ap (λ (t : List ℕ). placed t 304 (replicate 16 0)) (c.put.ensures.bytes ∙ ap (λ (t : List ℕ). placed t 256 guesses) c.put_row-14.ensures)
+    ∙ ap (λ (t : List ℕ). placed t 304 (replicate 16 0))
+    (c.put.ensures.bytes ∙ ap (λ (t : List ℕ). placed t 256 guesses) c.put_row-14.ensures)
     ∙ rows_all

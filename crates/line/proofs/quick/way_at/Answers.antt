@@ -13,7 +13,7 @@ returns c =
     let t = eqb (word.result % 4294967296 % 256) 115 in
     way_found a.rest.now a.at (λ k. (c.type_inv.rest k).fits) (omega arith) t word.result i.way' word.ensures
     (elim i.branch [
-        then-sent w ↦ way_chosen t i.way' (eq-eqb _ _) (ne_eqb _ _) (inl (w.if-sent.true, w.way'-is))
+      | then-sent w ↦ way_chosen t i.way' (eq-eqb _ _) (ne_eqb _ _) (inl (w.if-sent.true, w.way'-is))
       | else-sent w ↦ way_chosen t i.way' (eq-eqb _ _) (ne_eqb _ _) (inr (w.if-sent.false, w.way'-is))
     ])
     c.if-word-way.false
