@@ -7,7 +7,7 @@ use native.Mathlib.Numerals.{add-one}
 use mathlib.Core.Path.{◌≡◌, refl, sym, ◌∙◌, ap}
 use mathlib.Core.List.{List, [], ◌∷◌, ◌++◌, append-nil}
 use lib.ListN.{length, take, drop, length-append, length-drop, drop_of_length-le}
-use lib.Seq.{take_at, drop-drop, take-length, length-take-le}
+use lib.Seq.{take_at, drop-drop}
 use borrow.Author.Tests.{lt-ltb, le-ltb}
 use Rattle.records.specs.Records.{placed, flat, event_bytes}
 use Rattle.records.specs.Laws.{placed_next, flat_append, length_flat}
@@ -115,9 +115,8 @@ module _ (text area : List ℕ) where
     unfolding reading
     read_value = owed.value ∙ ap reading_of (sym whole_is)
 
-    pub copied_out : (part : List ℕ) → part ≡ take (4 * r.count) kept → take (length part) part ++ drop (length part) area ≡ area_after text area
+    pub copied_out : (part : List ℕ) → part ≡ take (4 * r.count) kept → part ++ drop (4 * r.count) area ≡ area_after text area
     unfolding area_after
     copied_out part p =
-        let n : length part ≡ 4 * r.count = ap length p ∙ length-take-le (4 * r.count) kept owed.within in
         let m : r.count ≡ length (events_in (lines_from (length area) 0 (lines text))) = ap (λ (x : Reading). x.count) owed.value ∙ count_of (lines_from (length area) 0 (lines text)) in
-        rw (take-length part, n, p, owed.records, whole_is, m)
+        rw (p, owed.records, whole_is, m)

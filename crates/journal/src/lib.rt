@@ -55,7 +55,7 @@ fn read_aside(text: &[u8], area: &mut [u8], kept: &mut [u8], aids: &[u8]) -> Rea
 {
     let got = read_lines(text, area.len(), kept, aids);
     let size = records::EVENT_SIZE * got.count;
-    bytes::copy(&kept[..size], area);
+    area[..size].copy_from_slice(&kept[..size]);
     got
 }
 
