@@ -4,7 +4,7 @@
 ghost use Rattle.std.specs.Prelude.{◌≡◌, ◌≤◌, length};
 ghost use Rattle.desk.specs.Desk.{report_most};
 
-use libc::{STDIN_FILENO, STDOUT_FILENO};
+use show::{STDIN, STDOUT};
 
 // As many bytes of a report as are printed as they are.
 const WHOLE_MOST: usize = 1000;
@@ -34,7 +34,7 @@ fn next_case(n: usize, input: &mut [u8], out: &mut [u8]) -> bool
     requires { report_most ≤ length out.old }
 {
     let mut head = [0u8; 4];
-    if io::read_full(STDIN_FILENO, &mut head) < 4 {
+    if io::read_full(STDIN, &mut head) < 4 {
         return false;
     }
     let size = show::u32_at(&head, 0);
@@ -47,11 +47,11 @@ fn next_case(n: usize, input: &mut [u8], out: &mut [u8]) -> bool
 fn one_case(n: usize, input: &mut [u8], out: &mut [u8]) -> bool
     requires { report_most ≤ length out.old }
 {
-    if io::read_full(STDIN_FILENO, input) < input.len() {
+    if io::read_full(STDIN, input) < input.len() {
         return false;
     }
     let count = desk::report(input, out);
-    io::write_all(STDOUT_FILENO, b"case ");
+    io::write_all(STDOUT, b"case ");
     show::number(n);
     show::line_end();
     print(&out[..count]);
@@ -60,9 +60,9 @@ fn one_case(n: usize, input: &mut [u8], out: &mut [u8]) -> bool
 
 fn print(report: &[u8]) {
     if report.len() <= WHOLE_MOST {
-        io::write_all(STDOUT_FILENO, report);
+        io::write_all(STDOUT, report);
     } else {
-        io::write_all(STDOUT_FILENO, b"long ");
+        io::write_all(STDOUT, b"long ");
         show::bytes(report);
         show::line_end();
     }

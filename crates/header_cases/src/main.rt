@@ -1,6 +1,6 @@
 #![tactic(auto)]
 // Prints the numbers that include/lotend.h names, as the crates have them. What it must print is made from the header.
-use libc::STDOUT_FILENO;
+use show::STDOUT;
 
 fn main() {
     messages();
@@ -16,7 +16,7 @@ fn small(name: &[u8], value: u8) {
 }
 
 fn large(name: &[u8], value: usize) {
-    io::write_all(STDOUT_FILENO, name);
+    io::write_all(STDOUT, name);
     show::space();
     show::number(value);
     show::line_end();

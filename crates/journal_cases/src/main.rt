@@ -4,7 +4,7 @@
 // little-endian bytes each, and the text. The area is filled with 165 before the call.
 ghost use Rattle.std.specs.Prelude.{◌≡◌, ◌<◌, length};
 
-use libc::{STDIN_FILENO, STDOUT_FILENO};
+use show::{STDIN, STDOUT};
 
 const FILLED: u8 = 165;
 // More cases than an input has: nothing says that an input ends.
@@ -29,7 +29,7 @@ fn all_cases(text: &mut [u8], area: &mut [u8]) {
 // False where the input has no more, or a case that is longer than the space for it.
 fn next_case(n: usize, text: &mut [u8], area: &mut [u8]) -> bool {
     let mut head = [0u8; 8];
-    if io::read_full(STDIN_FILENO, &mut head) < 8 {
+    if io::read_full(STDIN, &mut head) < 8 {
         return false;
     }
     let text_size = show::u32_at(&head, 0);
@@ -44,7 +44,7 @@ fn next_case(n: usize, text: &mut [u8], area: &mut [u8]) -> bool {
 }
 
 fn one_case(n: usize, text: &mut [u8], area: &mut [u8]) -> bool {
-    if io::read_full(STDIN_FILENO, text) < text.len() {
+    if io::read_full(STDIN, text) < text.len() {
         return false;
     }
     show::fill(area, FILLED);
@@ -62,7 +62,7 @@ fn answer(n: usize, text: &[u8], area: &mut [u8]) {
     show::space();
     show::number(r.count);
     show::line_end();
-    io::write_all(STDOUT_FILENO, b"area ");
+    io::write_all(STDOUT, b"area ");
     show::bytes(area);
     show::line_end();
 }

@@ -3,14 +3,17 @@
 ghost use Rattle.std.specs.Prelude.{◌≡◌, length};
 ghost use Rattle.desk.specs.Theorems.{input_most};
 
-use libc::{STDIN_FILENO, STDOUT_FILENO};
+// The standard streams, by the number that each has.
+const STDIN: i32 = 0;
+
+const STDOUT: i32 = 1;
 
 fn main() {
     let mut input = input_space();
-    let size = io::read_full(STDIN_FILENO, &mut input);
+    let size = io::read_full(STDIN, &mut input);
     let mut out = desk::report_space();
     let count = desk::report(&mut input[..size], &mut out);
-    io::write_all(STDOUT_FILENO, &out[..count]);
+    io::write_all(STDOUT, &out[..count]);
 }
 
 // The longest book, the longest journal and one byte more: what comes after can't change the report (`read_enough`).

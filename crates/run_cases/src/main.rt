@@ -4,7 +4,7 @@
 // then the book and the events. The area is filled with 165 before the call.
 ghost use Rattle.std.specs.Prelude.{◌≡◌, length};
 
-use libc::{STDIN_FILENO, STDOUT_FILENO};
+use show::{STDIN, STDOUT};
 
 const FILLED: u8 = 165;
 // More cases than an input has: nothing says that an input ends.
@@ -30,7 +30,7 @@ fn all_cases(book: &mut [u8], events: &mut [u8], area: &mut [u8]) {
 // False where the input has no more, or a case that is longer than the space for it.
 fn next_case(n: usize, book: &mut [u8], events: &mut [u8], area: &mut [u8]) -> bool {
     let mut head = [0u8; 12];
-    if io::read_full(STDIN_FILENO, &mut head) < 12 {
+    if io::read_full(STDIN, &mut head) < 12 {
         return false;
     }
     let book_size = show::u32_at(&head, 0);
@@ -54,10 +54,10 @@ fn next_case(n: usize, book: &mut [u8], events: &mut [u8], area: &mut [u8]) -> b
 }
 
 fn one_case(n: usize, book: &mut [u8], events: &mut [u8], area: &mut [u8]) -> bool {
-    if io::read_full(STDIN_FILENO, book) < book.len() {
+    if io::read_full(STDIN, book) < book.len() {
         return false;
     }
-    if io::read_full(STDIN_FILENO, events) < events.len() {
+    if io::read_full(STDIN, events) < events.len() {
         return false;
     }
     show::fill(area, FILLED);
@@ -76,7 +76,7 @@ fn answer(n: usize, book: &mut [u8], events: &[u8], area: &mut [u8]) {
 }
 
 fn named(name: &[u8], part: &[u8]) {
-    io::write_all(STDOUT_FILENO, name);
+    io::write_all(STDOUT, name);
     show::bytes(part);
     show::line_end();
 }
