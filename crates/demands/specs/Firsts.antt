@@ -21,6 +21,7 @@ pub data First : List Test → ℕ → Type 0 where
 
 -- it is given exactly then
 pub given : (ts : List Test) (n : ℕ) → First ts n → first ts ≡ n
+given [] n x = elim x [ ]
 given (t ∷ ts) n (here h) = simp h
 given (t ∷ ts) n (later h f) = simp h (given ts n f)
 
