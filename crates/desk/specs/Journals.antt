@@ -2,7 +2,7 @@
 -- The argument: an event that a line says has a seat of 16 bits, so its record reads back as that event; there is room for 4,096, so
 -- the run takes them all; and a run changes no count of the book.
 -- Assumes nothing.
-use Rattle.std.specs.Prelude.{ℕ, suc, ◌+◌, ◌*◌, ◌-◌, ◌/◌, ◌%◌, ◌≤◌, ◌<◌, ◌≡◌, refl, Bool, true, false, cond, List, [], ◌∷◌, ◌++◌, ltb, length, take, drop}
+use Rattle.std.specs.Prelude.{ℕ, suc, ◌+◌, ◌*◌, ◌/◌, ◌%◌, ◌≤◌, ◌<◌, ◌≡◌, refl, Bool, true, false, cond, List, [], ◌∷◌, ◌++◌, ltb, length, take, drop}
 use Rattle.std.proofs.Common.{arith, sym, ap, ◌∙◌, length-append, length-drop, take_at}
 use Rattle.records.specs.declared.Event.{Event}
 use Rattle.records.specs.Records.{at16, flat, event_at, events_of, event_bytes}

@@ -1,6 +1,5 @@
 -- The event's four fields and its answer's four.
 -- Assumes nothing.
-use borrow.Author.Rules.{rules}
 use native.Mathlib.Omega.{arith}
 use Rattle.desk.specs.Lines.{put_event}
 use Rattle.desk.proofs.put_event.Goals as goal

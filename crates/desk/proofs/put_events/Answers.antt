@@ -1,7 +1,6 @@
 -- After i turns the lines of the first i events stand from `from` on, each in at most 48 bytes.
 -- Assumes nothing.
-use borrow.Author.Rules.{rules}
-use Prim.Native.Nat.{◌+◌, ◌*◌, ◌-◌, ◌/◌, ◌≤◌}
+use Prim.Native.Nat.{◌+◌, ◌*◌, ◌/◌}
 use native.Mathlib.Omega.{arith}
 use mathlib.Core.Path.{◌≡◌, refl, ◌∙◌, ap}
 use mathlib.Core.List.{◌++◌}
@@ -9,9 +8,8 @@ use lib.ListN.{length}
 use Rattle.records.specs.declared.Event.{Event}
 use Rattle.records.specs.Records.{first_events}
 use Rattle.demands.specs.Groups.{first_answers}
-use Rattle.text.specs.Text.{Put}
 use Rattle.text.specs.Laws.{put_length, put_none, put_same, joined}
-use Rattle.desk.specs.Desk.{event_line, event_line_most, event_lines}
+use Rattle.desk.specs.Desk.{event_line, event_lines}
 use Rattle.desk.specs.Lines.{next_line, seat_most}
 use Rattle.desk.proofs.put_events.Goals as goal
 
@@ -23,7 +21,10 @@ put_event-at-requires c =
     let i = c.loop-i.i in
     let g = c.type_inv.events in
     let m = ap (λ (e : Event). e.seat) c.read_event.ensures in
-    ((omega arith, omega (arith, m, seat_most c.args.events.now i (omega (arith, g (4 * i))) (omega (arith, g (4 * i + 1))))), omega arith)
+    record {
+      n_lt_number_most = (omega arith, omega (arith, m, seat_most c.args.events.now i (omega (arith, g (4 * i))) (omega (arith, g (4 * i + 1)))));
+      event_line_most_in_bounds = omega arith;
+    }
 
 pub loop-i-preserved : goal.loop-i-preserved
 loop-i-preserved c =
@@ -33,9 +34,9 @@ loop-i-preserved c =
     let p = c.put_event-at in (
       omega arith,
       v.1,
-      put_length p.ensures.0 ∙ v.2,
-      omega (arith, p.ensures.1),
-      put_same ((λ j. event_lines 1 (first_events x.events.now i) (first_answers i x.answers.now) ++ event_line (i + 1) (c.read_event.ensures j) (c.read_answer.ensures j)) ∙ next_line x.events.now x.answers.now i (omega arith)) (joined v.4 p.ensures.0),
+      put_length p.ensures.text ∙ v.2,
+      omega (arith, p.ensures.most),
+      put_same ((λ j. event_lines 1 (first_events x.events.now i) (first_answers i x.answers.now) ++ event_line (i + 1) (c.read_event.ensures j) (c.read_answer.ensures j)) ∙ next_line x.events.now x.answers.now i (omega arith)) (joined v.4 p.ensures.text),
     )
 
 pub shape_of-out : goal.shape_of-out

@@ -1,6 +1,5 @@
 -- Four fields, one after the other.
 -- Assumes nothing.
-use borrow.Author.Rules.{rules}
 use native.Mathlib.Omega.{arith}
 use Rattle.desk.specs.Lines.{put_fields}
 use Rattle.desk.proofs.put_fields.Goals as goal

@@ -1,15 +1,11 @@
 -- After n turns the lines of the first n seats stand from `from` on, each in at most 17 bytes.
 -- Assumes nothing.
-use borrow.Author.Rules.{rules}
-use Prim.Native.Nat.{◌+◌, ◌*◌, ◌-◌, ◌≤◌}
 use native.Mathlib.Omega.{arith}
 use native.Mathlib.Numerals.{add-one}
 use mathlib.Core.Path.{◌≡◌, refl, sym, ◌∙◌, ap}
-use lib.ListN.{length}
 use Rattle.book.specs.Layout.{seat_count}
-use Rattle.text.specs.Text.{Put}
 use Rattle.text.specs.Laws.{put_length, put_none, put_same, joined}
-use Rattle.desk.specs.Desk.{seat_line_most, seat_lines}
+use Rattle.desk.specs.Desk.{seat_lines}
 use Rattle.desk.proofs.put_seats.Goals as goal
 
 pub loop-n-init : goal.loop-n-init
@@ -24,7 +20,7 @@ loop-n-preserved c =
     let v = c.loop-n.invariant in
     let n = c.loop-n.n in
     let p = c.put_seat-at in
-    (omega arith, v.1, put_length p.ensures.0 ∙ v.2, omega (arith, p.ensures.1), put_same (ap (seat_lines x.book.now) (sym (add-one n))) (joined v.4 p.ensures.0))
+    (omega arith, v.1, put_length p.ensures.text ∙ v.2, omega (arith, p.ensures.most), put_same (ap (seat_lines x.book.now) (sym (add-one n))) (joined v.4 p.ensures.text))
 
 pub shape_of-out : goal.shape_of-out
 shape_of-out c =

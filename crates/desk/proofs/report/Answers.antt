@@ -1,6 +1,5 @@
 -- Each way out is one case of `judged`.
 -- Assumes nothing.
-use borrow.Author.Rules.{rules}
 use native.Mathlib.Omega.{arith}
 use mathlib.Core.Path.{refl, sym, ◌∙◌}
 use lib.Seq.{length-take-le}
@@ -11,12 +10,18 @@ use Rattle.desk.proofs.report.Goals as goal
 pub returns-then-input-lt-HEAD_SIZE : goal.returns-then-input-lt-HEAD_SIZE
 returns-then-input-lt-HEAD_SIZE c =
     let i = c.args.input.now in
-    reported i i c.args.out.now _ _ (bad_book 1) (too_short i c.if-input-lt-HEAD_SIZE.true) c.Put-refused.ensures refl
+    let ends =
+    reported i i c.args.out.now _ _ (bad_book 1) (too_short i c.if-input-lt-HEAD_SIZE.true) c.put_refused.ensures refl
+    in
+    record { count = ends.0; within = ends.1.0; text = ends.1.1.0; input = ends.1.1.1 }
 
 pub returns-then-input-size : goal.returns-then-input-size
 returns-then-input-size c =
     let i = c.args.input.now in
+    let ends =
     reported i i c.args.out.now _ _ (bad_book 2) (cut_off i c.if-input-lt-HEAD_SIZE.false c.size-size.result c.size-size.ensures c.if-input-size.true) c.put_refused-then-input-size.ensures refl
+    in
+    record { count = ends.0; within = ends.1.0; text = ends.1.1.0; input = ends.1.1.1 }
 
 pub slice_bounds-check-end-2 : goal.slice_bounds-check-end-2
 slice_bounds-check-end-2 c =
@@ -25,9 +30,12 @@ slice_bounds-check-end-2 c =
 pub returns-then-bad-ne-GOOD : goal.returns-then-bad-ne-GOOD
 returns-then-bad-ne-GOOD c =
     let i = c.args.input.now in
+    let ends =
     reported i i c.args.out.now _ _ (bad_book c.check-bad.result)
     (book_refused i c.if-input-lt-HEAD_SIZE.false c.size-size.result c.size-size.ensures c.if-input-size.false c.check-bad.result c.check-bad.ensures c.if-bad-ne-GOOD.true)
     c.put_refused-then-bad-ne-GOOD.ensures refl
+    in
+    record { count = ends.0; within = ends.1.0; text = ends.1.1.0; input = ends.1.1.1 }
 
 pub put_journal-requires : goal.put_journal-requires
 put_journal-requires c = record { size_in_bounds = (c.if-input-size.false, sym c.check-bad.ensures ∙ c.if-bad-ne-GOOD.false); report_most_in_bounds = omega arith }
@@ -36,5 +44,8 @@ pub returns : goal.returns
 returns c =
     let i = c.args.input.now in
     let p = c.put_journal.ensures in
+    let ends =
     reported i _ c.args.out.now _ _ _
-    (book_good i c.if-input-lt-HEAD_SIZE.false c.size-size.result c.size-size.ensures c.if-input-size.false (sym c.check-bad.ensures ∙ c.if-bad-ne-GOOD.false)) p.0 p.1
+    (book_good i c.if-input-lt-HEAD_SIZE.false c.size-size.result c.size-size.ensures c.if-input-size.false (sym c.check-bad.ensures ∙ c.if-bad-ne-GOOD.false)) p.text p.input
+    in
+    record { count = ends.0; within = ends.1.0; text = ends.1.1.0; input = ends.1.1.1 }
