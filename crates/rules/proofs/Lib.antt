@@ -1,3 +1,5 @@
 pub mod Law
 pub mod Once
 pub mod Places
+pub mod Sound
+pub mod Cases

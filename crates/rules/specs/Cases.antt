@@ -1,10 +1,9 @@
--- The outline's marked (*) lot cases, as one list under a single statement.
+-- The outline's marked (*) lot cases, as one list. They hold (proofs/Cases.antt).
 -- Assumes nothing.
-use Rattle.std.specs.Prelude.{◌≡◌, ℕ, List, [], ◌∷◌, map, refl}
+use Rattle.std.specs.Prelude.{ℕ, List, [], ◌∷◌}
 use Rattle.rules.specs.declared.Answer.{Answer}
 use Rattle.rules.specs.Numbers.{received, coordinator, participant, plain, split, complete, close, compensate, exited, exit, completed, fail, closed}
-use Rattle.rules.specs.Tables.{coordinator_receives, coordinator_sends, participant_receives, participant_sends}
-use Rattle.rules.specs.Rules.{has_state, last_state, line_of, entry_of, answer_of, answer}
+use Rattle.rules.specs.Rules.{entry_of, answer_of, answer}
 
 -- a role, a table and a state, the message that the seat got, and the answer that is to come: refusal, state, action, reply
 pub record Case : Type 0 where
@@ -32,7 +31,3 @@ marked =
 
 abbrev pub answered : Case → Answer
 answered c = answer_of (entry_of c.role c.table received c.got c.state) c.state
-
-pub marked_hold : map answered marked ≡ map (λ c. c.gives) marked
-unfolding entry_of line_of has_state last_state coordinator_receives coordinator_sends participant_receives participant_sends
-marked_hold = refl

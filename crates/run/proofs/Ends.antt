@@ -15,7 +15,8 @@ use Rattle.rules.specs.declared.Entry.{Entry}
 use Rattle.rules.specs.declared.Answer.{Answer}
 use Rattle.rules.specs.Rules.{moves, entry_of, answer_of, legal}
 use Rattle.rules.specs.Place.{place_of, entry_at, place_entry}
-use Rattle.rules.specs.Laws.{Known, within, moves_in, legal_moves, legal_answered, illegal_invalid}
+use Rattle.rules.specs.Laws.{Known, within, moves_in, legal_answered, illegal_invalid}
+use Rattle.rules.proofs.Sound.{legal_moves}
 use Rattle.book.specs.declared.Activity.{Activity}
 use Rattle.book.specs.declared.Seat.{Seat}
 use Rattle.book.specs.Layout.{seat_count, seat_of, moved}

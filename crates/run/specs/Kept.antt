@@ -14,7 +14,8 @@ use Rattle.rules.specs.declared.Entry.TheVariants.{Invalid, Ignore, Move, Forget
 use Rattle.rules.specs.Numbers.{sent, coordinator, close, compensate}
 use Rattle.rules.specs.Rules.{moves, entry_of, answer_of, legal, has_state}
 use Rattle.rules.specs.Outcome.{needed_by, suits, asked_by}
-use Rattle.rules.specs.Laws.{legal_good, next_has, next_turns, Turns, none, kept, asked as turns-asked}
+use Rattle.rules.specs.Laws.{legal_good, Turns, none, kept, asked as turns-asked}
+use Rattle.rules.proofs.Sound.{next_has, next_turns}
 use Rattle.book.specs.declared.Activity.{Activity}
 use Rattle.book.specs.declared.Seat.{Seat}
 use Rattle.book.specs.Layout.{activity_count, seat_count, activity_of, seat_of, moved}
