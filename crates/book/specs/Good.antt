@@ -1,9 +1,9 @@
 -- A good book, and that it stays good where one event is written.
--- The argument: book_refusal is 0 exactly where the five tests pass; after an event each test passes again, at the seat and the
--- activity that were written by what is asked below, and elsewhere because nothing changed there.
+-- The argument: book_refusal is 0 where the five tests pass, and there alone (proofs/Chain.antt); after an event each test passes
+-- again, at the seat and the activity that were written by what is asked below, and elsewhere because nothing changed there.
 -- Assumes nothing.
-use Rattle.std.specs.Prelude.{◌≡◌, refl, Bool, false, cond, not, ◌&&◌, List, ℕ, ◌≤◌, ◌<◌, length, leb, ltb, eqb}
-use Rattle.std.proofs.Common.{sym, ◌∙◌, arith, le-ltb, ltb-true, ltb-false, eqb-true, leb-true, le-leb, eq-eqb}
+use Rattle.std.specs.Prelude.{◌≡◌, Bool, false, cond, not, ◌&&◌, List, ℕ, ◌≤◌, ◌<◌, length, leb, ltb, eqb}
+use Rattle.std.proofs.Common.{sym, ◌∙◌, arith, le-ltb, ltb-true, eqb-true, leb-true, le-leb, eq-eqb}
 use Rattle.std.proofs.Math.Path.{ap}
 use Rattle.std.proofs.Math.Bool.{true}
 use Rattle.std.proofs.Math.Logic.{⊎_elim}
@@ -58,22 +58,8 @@ pub record Good (b : List ℕ) : Type 0 where
   pub seats : seats_good b ≡ true
   pub directions : directions_good b ≡ true
 
-abbrev chain : Bool → Bool → Bool → Bool → Bool → ℕ
+abbrev pub chain : Bool → Bool → Bool → Bool → Bool → ℕ
 chain l h a s d = cond l 1 (cond (not h) 2 (cond (not a) 3 (cond (not s) 4 (cond (not d) 5 0))))
-
-unchain : (l h a s d : Bool) → chain l h a s d ≡ 0 → (l ≡ false) × (h ≡ true) × (a ≡ true) × (s ≡ true) × (d ≡ true)
-unchain false true true true true e = (refl, refl, refl, refl, refl)
-unchain false true true true false e = absurd (omega arith)
-unchain false true true false d e = absurd (omega arith)
-unchain false true false s d e = absurd (omega arith)
-unchain false false a s d e = absurd (omega arith)
-unchain true h a s d e = absurd (omega arith)
-
-pub good_of : (b : List ℕ) → book_refusal b ≡ 0 → Good b
-unfolding book_refusal
-good_of b e =
-    let u = unchain (ltb (length b) head_size) (head_good b) (activities_good b) (seats_good b) (directions_good b) e in
-    record { long = ltb-false _ _ u.0; head = u.1; activities = u.2; seats = u.3; directions = u.4 }
 
 pub good_to : (b : List ℕ) → Good b → book_refusal b ≡ 0
 unfolding book_refusal

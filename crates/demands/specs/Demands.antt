@@ -9,7 +9,7 @@ use Rattle.records.specs.Records.{flat, event_bytes, events_of}
 use Rattle.rules.specs.Rules.{entry_of, answer_of}
 use Rattle.book.specs.Layout.{activity_count, activity_of, seat_of, with_state, with_direction}
 use Rattle.book.specs.Book.{book_refusal}
-use Rattle.book.specs.Good.{good_of}
+use Rattle.book.proofs.Chain.{good_of}
 use Rattle.run.specs.Step.{turned, lot_of, answer_to, book_after}
 use Rattle.run.specs.Run.{after, run_refusal, run_book, run_answers}
 use Rattle.journal.specs.Journal.{reading, area_after}

@@ -17,7 +17,8 @@ use Rattle.book.specs.declared.Activity.{Activity}
 use Rattle.book.specs.declared.Seat.{Seat}
 use Rattle.book.specs.Layout.{head_size, activity_count, seat_count, activity_of, seat_of, head_of, with_state, with_direction}
 use Rattle.book.specs.Book.{head_good, activities_good, seats_good, directions_good, book_refusal}
-use Rattle.book.specs.Good.{good_of, good_to, seat_in_lem}
+use Rattle.book.specs.Good.{good_to, seat_in_lem}
+use Rattle.book.proofs.Chain.{good_of}
 use Rattle.run.specs.Step.{refused, known, ruled, wanted, clashes, turned, judged, lot_of, answer_to, book_after, answer_bytes, outcome_of, turned_book}
 use Rattle.run.specs.Run.{after, answers, most_events, run_refusal, run_book, run_answers}
 use Rattle.run.specs.Kept.{run_good}

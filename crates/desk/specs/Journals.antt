@@ -9,7 +9,8 @@ use Rattle.records.specs.Records.{at16, flat, event_at, events_of, event_bytes}
 use Rattle.records.specs.Laws.{length_flat}
 use Rattle.book.specs.Layout.{activity_count, seat_count, Shaped}
 use Rattle.book.specs.Book.{book_refusal}
-use Rattle.book.specs.Good.{Good, good_of, shaped}
+use Rattle.book.specs.Good.{Good, shaped}
+use Rattle.book.proofs.Chain.{good_of}
 use Rattle.run.specs.Step.{book_after}
 use Rattle.run.specs.Run.{after, run_book, run_answers}
 use Rattle.run.specs.Kept.{step_good, run_good}

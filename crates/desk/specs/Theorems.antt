@@ -10,7 +10,8 @@ use Rattle.lemmas.specs.Orders.{same_or, below_or}
 use Rattle.records.specs.Records.{at16}
 use Rattle.book.specs.Layout.{head_size, activity_size, seat_size, most_activities, most_seats, size_of}
 use Rattle.book.specs.Book.{head_good, book_refusal}
-use Rattle.book.specs.Good.{good_of, shaped}
+use Rattle.book.specs.Good.{shaped}
+use Rattle.book.proofs.Chain.{good_of}
 use Rattle.journal.specs.Journal.{refused, outcome}
 use Rattle.desk.specs.Desk.{records_most, of_journal, of_book, judged, printed, report_of, input_after}
 use Rattle.desk.specs.Ends.{cut_off, of_book_lem}

@@ -7,7 +7,8 @@ use Rattle.rules.specs.Rules.{answer_of, legal}
 use Rattle.book.specs.declared.Activity.{Activity}
 use Rattle.book.specs.declared.Seat.{Seat}
 use Rattle.book.specs.Layout.{seat_count, activity_of, moved}
-use Rattle.book.specs.Good.{good_of, shaped, seat_in_lem, lot_direction}
+use Rattle.book.specs.Good.{shaped, seat_in_lem, lot_direction}
+use Rattle.book.proofs.Chain.{good_of}
 use Rattle.run.specs.Step.{refused, unlisted_number, wanted, clashes, turned}
 use Rattle.run.specs.Kept.{wanted_le}
 use Rattle.run.proofs.Ends.{end_none, placed, end_unlisted, end_clash, end_listed}

@@ -4,7 +4,8 @@ use native.Mathlib.Omega.{arith}
 use mathlib.Core.Path.{◌≡◌, refl, ◌∙◌, ap}
 use Rattle.records.specs.Records.{first_events}
 use Rattle.book.specs.Book.{book_refusal}
-use Rattle.book.specs.Good.{good_of, good_to}
+use Rattle.book.specs.Good.{good_to}
+use Rattle.book.proofs.Chain.{good_of}
 use Rattle.run.specs.Run.{after, filled}
 use Rattle.run.specs.Kept.{run_good}
 use Rattle.run.proofs.Turns.{turn_book, turn_area}
