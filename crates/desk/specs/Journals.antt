@@ -1,6 +1,6 @@
 -- What the desk makes of a journal's reading, and of a run on a good book.
 -- The argument: an event that a line says has a seat of 16 bits, so its record reads back as that event; there is room for 4,096, so
--- the run takes them all; and a run changes no count of the book.
+-- the run takes them all; and a run changes no count of the book. What it lists then is in proofs/Listed.antt.
 -- Assumes nothing.
 use Rattle.std.specs.Prelude.{ℕ, suc, ◌+◌, ◌*◌, ◌/◌, ◌%◌, ◌≤◌, ◌<◌, ◌≡◌, refl, Bool, true, false, cond, List, [], ◌∷◌, ◌++◌, ltb, length, take, drop}
 use Rattle.std.proofs.Common.{arith, sym, ap, ◌∙◌, length-append, length-drop, take_at}
@@ -12,12 +12,11 @@ use Rattle.book.specs.Book.{book_refusal}
 use Rattle.book.specs.Good.{Good, shaped}
 use Rattle.book.proofs.Chain.{good_of}
 use Rattle.run.specs.Step.{book_after}
-use Rattle.run.specs.Run.{after, run_book, run_answers}
+use Rattle.run.specs.Run.{after, run_book}
 use Rattle.run.specs.Kept.{step_good, run_good}
-use Rattle.demands.specs.Groups.{first_answers}
 use Rattle.demands.specs.Bytes.{events_joined}
 use Rattle.demands.specs.Neighbours.{after_acts, after_seats, after_length}
-use Rattle.demands.specs.Whole.{Ready, good_book, good_area}
+use Rattle.demands.specs.Whole.{Ready, good_book}
 use Rattle.line.specs.Laws.{Sound, Judged as LineJudged, line_judged}
 use Rattle.line.specs.Grammar.{line_of}
 use Rattle.line.specs.declared.Line.{Line}
@@ -26,7 +25,7 @@ use Rattle.journal.specs.declared.Reading.{Reading}
 use Rattle.journal.specs.Journal.{lines, has_room, roomed, Outcome, events, refused, on_line, lines_from, outcome, events_in, reading_of, reading, area_after}
 use Rattle.journal.specs.Laws.{has_room_lem}
 use Rattle.text.specs.Text.{number_most}
-use Rattle.desk.specs.Desk.{records_most, book_line, listed, listing}
+use Rattle.desk.specs.Desk.{records_most}
 
 -- events that lines say
 abbrev pub Sounds : List Event → Type 0
@@ -126,13 +125,6 @@ module _ (b ev area : List ℕ) (good : book_refusal b ≡ 0) (whole : length ev
 
   pub run_shaped : Shaped (run_book b ev area)
   run_shaped = rw (good_book b ev area ready) (shaped _ (run_good b (events_of ev) (good_of b good)).head)
-
-  pub run_listed : {b' l' : List ℕ} → b' ≡ run_book b ev area → l' ≡ run_answers b ev area
-      → listed b' (events_of ev) (first_answers (length ev / 4) l') ≡ listing b (events_of ev)
-  unfolding listed listing book_line
-  run_listed p q =
-      let n = run_counts b (events_of ev) (good_of b good) in
-      rw (p, q, good_book b ev area ready, good_area b ev area ready, n.0, n.1)
 
   pub run_after : {b' : List ℕ} → b' ≡ run_book b ev area → b' ≡ after b (events_of ev)
   run_after e = e ∙ good_book b ev area ready

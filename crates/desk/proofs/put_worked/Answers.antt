@@ -4,7 +4,8 @@ use Rattle.std.proofs.Common.{ℕ, ◌≡◌, ◌≤◌, sym, ◌∙◌, ap, sub
 use Rattle.std.proofs.Math.Seq.{take_at}
 use Rattle.book.specs.Layout.{Shaped}
 use Rattle.text.specs.Laws.{put_same}
-use Rattle.desk.specs.Journals.{run_shaped, run_listed, run_after}
+use Rattle.desk.specs.Journals.{run_shaped, run_after}
+use Rattle.desk.proofs.Listed.{run_listed}
 use Rattle.desk.proofs.put_worked.Goals as goal
 
 -- the run keeps the book's length, so that the front of the input is still the book
