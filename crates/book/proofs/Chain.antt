@@ -1,9 +1,7 @@
 -- A book that is not refused is good (specs/Good.antt has what that is, and the converse, `good_to`).
 -- The argument: book_refusal is `chain` of the five tests, and that is 0 only where each of them passes.
 -- Assumes nothing.
-use Rattle.std.specs.Prelude.{◌≡◌, refl, Bool, false, List, ℕ, length, ltb}
-use Rattle.std.proofs.Common.{arith, ltb-false}
-use Rattle.std.proofs.Math.Bool.{true}
+use Rattle.std.proofs.Common.{◌≡◌, refl, Bool, false, List, ℕ, length, ltb, arith, ltb-false, true}
 use Rattle.book.specs.Layout.{head_size}
 use Rattle.book.specs.Book.{head_good, activities_good, seats_good, directions_good, book_refusal}
 use Rattle.book.specs.Good.{Good, chain}

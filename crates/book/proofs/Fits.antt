@@ -1,11 +1,8 @@
 -- One walk for rules 4 and 5.
 -- The argument: a test of both rules passes at every seat exactly where each rule's does.
 -- Assumes nothing.
-use mathlib.Core.Path.{◌≡◌, sym, ◌∙◌}
-use mathlib.Core.Bool.{true, false, false≢true}
-use mathlib.Core.Logic.{⊎_elim}
-use mathlib.Core.List.{List}
-use Prim.Native.Nat.{ℕ}
+use Rattle.std.proofs.Common.{◌≡◌, sym, ◌∙◌, true, false, ⊎_elim, List, ℕ}
+use Rattle.std.proofs.lemmas.Bool.{false≢true}
 use Rattle.lemmas.specs.Bools.{both, both_of, cases}
 use Rattle.lemmas.specs.Walks.{every_at, every_all}
 use Rattle.book.specs.Layout.{seat_count}

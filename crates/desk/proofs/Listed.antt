@@ -1,7 +1,7 @@
 -- What the desk lists after the run of a good book is that book's listing.
 -- The argument: the book and the answers are those of the events (`ready`), and a run leaves the counts (`run_counts`).
 -- Assumes nothing.
-use Rattle.std.specs.Prelude.{ℕ, ◌/◌, ◌%◌, ◌≤◌, ◌≡◌, List, length}
+use Rattle.std.proofs.Common.{ℕ, ◌/◌, ◌%◌, ◌≤◌, ◌≡◌, List, length}
 use Rattle.records.specs.Records.{events_of}
 use Rattle.book.specs.Book.{book_refusal}
 use Rattle.book.proofs.Chain.{good_of}

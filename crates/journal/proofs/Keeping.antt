@@ -1,14 +1,7 @@
 -- What is kept while a text is read: after n good lines the kept bytes begin with the records of their events, and what the whole
 -- text gives is those events in front of what the text from the next line on gives.
 -- Assumes nothing.
-use Prim.Native.Nat.{ℕ, suc, ◌+◌, ◌*◌, ◌<◌, ◌≤◌}
-use native.Mathlib.Omega.{arith}
-use native.Mathlib.Numerals.{add-one}
-use mathlib.Core.Path.{◌≡◌, refl, sym, ◌∙◌, ap}
-use mathlib.Core.List.{List, [], ◌∷◌, ◌++◌, append-nil}
-use lib.ListN.{length, take, drop, length-append, length-drop, drop_of_length-le}
-use lib.Seq.{take_at, drop-drop}
-use borrow.Author.Tests.{lt-ltb, le-ltb}
+use Rattle.std.proofs.Common.{ℕ, suc, ◌+◌, ◌*◌, ◌<◌, ◌≤◌, arith, add-one, ◌≡◌, refl, sym, ◌∙◌, ap, List, [], ◌∷◌, ◌++◌, append-nil, length, take, drop, length-append, length-drop, drop_of_length-le, take_at, drop-drop, lt-ltb, le-ltb}
 use Rattle.records.specs.Records.{placed, flat, event_bytes}
 use Rattle.records.specs.Laws.{placed_next, flat_append, length_flat}
 use Rattle.records.specs.declared.Event.{Event}

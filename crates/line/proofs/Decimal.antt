@@ -3,7 +3,7 @@
 use Rattle.std.proofs.Common.{◌≡◌, ℕ, suc, ◌+◌, ◌-◌, ◌*◌, ◌<◌, ◌≤◌, Bool, true, false, eqb, leb, ◌⊎◌, List, [], ◌∷◌, length, get_or, drop, refl, inl, inr, le_trans, le_refl, add-one, arith, drop_of_length-le, drop-cons, lt-ltb, eq-eqb, ne_eqb, eqb-true, le-leb}
 use mathlib.Core.Bool.{and-false}
 use lib.Dec.{leb-suc-suc}
-use borrow.Author.Tests.{lt-leb}
+use Rattle.std.proofs.lemmas.Bool.{lt-leb}
 use Rattle.line.specs.Grammar.{space, index_of, before, value, well_begun, is_seat}
 use Rattle.line.specs.Seats.{seat_in, digits_in}
 use Rattle.line.specs.declared.Seat.TheVariants.{At, Nothing}

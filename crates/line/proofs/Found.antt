@@ -1,12 +1,10 @@
 -- What the quick way finds: a seat, a way and a name, each with the byte behind it.
 -- The argument: bytes whose words are the same, whole or under a mask, are the same (`same_lower`, `same_masked`).
 -- Assumes nothing.
-use Rattle.std.proofs.Common.{◌≡◌, ℕ, zero, suc, ◌+◌, ◌-◌, ◌*◌, ◌%◌, ◌^◌, ◌<◌, ◌≤◌, min, Bool, true, false, not, ◌&&◌, ◌||◌, eqb, leb, ◌⊎◌, List, [], ◌∷◌, ◌++◌, length, get_or, take, drop, sym, refl, ap, ◌∙◌, subst, inl, inr, ⊎_elim, append_assoc, add-one, arith, length-append, take-append-drop, length-take, drop-cons, drop-drop, take-add, ne_eqb, eqb-true}
-use mathlib.Core.Bool.{false≢true}
-use lib.Bits.{bit_and}
+use Rattle.std.proofs.Common.{◌≡◌, ℕ, zero, suc, ◌+◌, ◌-◌, ◌*◌, ◌%◌, ◌^◌, ◌<◌, ◌≤◌, min, Bool, true, false, not, ◌&&◌, ◌||◌, eqb, leb, ◌⊎◌, List, [], ◌∷◌, ◌++◌, length, get_or, take, drop, sym, refl, ap, ◌∙◌, subst, inl, inr, ⊎_elim, append_assoc, add-one, arith, length-append, take-append-drop, length-take, drop-cons, drop-drop, take-add, ne_eqb, eqb-true, bit_and}
+use Rattle.std.proofs.lemmas.Bool.{false≢true, eqb-false, not-true, not-false}
 use mir.Val.{bool_byte}
 use mir.Facts.{eqb_yes}
-use borrow.Author.Tests.{eqb-false, not-true, not-false}
 use Rattle.lemmas.specs.Bools.{both, both_of}
 use Rattle.lemmas.specs.Ranges.{each_at}
 use Rattle.lemmas.specs.Orders.{below_or}

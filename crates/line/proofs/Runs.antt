@@ -2,7 +2,7 @@
 -- where none has ended them yet all i bytes are digits and say what was summed up.
 -- Assumes nothing.
 use Rattle.std.proofs.Common.{◌≡◌, ℕ, zero, suc, ◌+◌, ◌-◌, ◌*◌, ◌%◌, ◌^◌, ◌<◌, ◌≤◌, Bool, true, false, ◌&&◌, leb, List, [], ◌∷◌, ◌++◌, length, get_or, take, sym, refl, ap, ◌∙◌, add-one, arith, take-suc, leb-true}
-use mathlib.Core.Bool.{false≢true}
+use Rattle.std.proofs.lemmas.Bool.{false≢true}
 use mir.Val.{bool_byte}
 use mir.Facts.{leb_yes}
 use Rattle.lemmas.specs.Bools.{both}

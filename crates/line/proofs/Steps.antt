@@ -2,7 +2,7 @@
 -- Assumes nothing.
 use Rattle.std.proofs.Common.{◌≡◌, ℕ, ◌+◌, ◌<◌, ◌≤◌, Bool, true, false, cond, ◌&&◌, ◌⊎◌, List, length, take, drop, refl, ⊎_elim, arith, length-take, ltb-true, le-ltb, lt-ltb, le-leb}
 use mathlib.Core.Bool.{and-eq-true_iff}
-use borrow.Author.Tests.{lt-leb}
+use Rattle.std.proofs.lemmas.Bool.{lt-leb}
 use Rattle.names.specs.Names.{way_named}
 use Rattle.line.specs.Grammar.{newline, space, line_most, index_of, has, before, is_seat, value, third_of, second_of, fields_of, line_of}
 use Rattle.line.specs.Seats.{seat_in}

@@ -1,13 +1,6 @@
 -- `same` of two lists that are compared from the front, byte by byte. Assumes nothing.
-use Prim.Native.Nat.{ℕ, suc, ◌+◌, ◌<◌, ◌≤◌}
-use native.Mathlib.Numerals.{add-one}
-use mathlib.Core.Path.{◌≡◌, refl, ap}
-use mathlib.Core.Bool.{true, false, and-false}
-use mathlib.Core.List.{List, [], ◌∷◌}
-use lib.Dec.{eqb}
-use lib.ListN.{length, get_or, drop, drop_of_length-le}
-use lib.Seq.{drop-cons}
-use borrow.Author.Tests.{eq-eqb, ne_eqb}
+use Rattle.std.proofs.Common.{ℕ, suc, ◌+◌, ◌<◌, ◌≤◌, add-one, ◌≡◌, refl, ap, true, false, List, [], ◌∷◌, eqb, length, get_or, drop, drop_of_length-le, drop-cons, eq-eqb, ne_eqb}
+use mathlib.Core.Bool.{and-false}
 use Rattle.names.specs.Names.{same}
 
 pub same_lengths : (a b : List ℕ) → (length a ≡ length b → ⊥) → same a b ≡ false

@@ -1,8 +1,7 @@
 -- Each legal entry is `sound` (specs/Laws.antt), and what that says of it, part by part.
 -- The argument: antt computes `sound` at each of the 1,680 entries in range, and a legal entry is in range (`within`).
 -- Assumes nothing.
-use Rattle.std.specs.Prelude.{◌≡◌, ℕ, true, not, ◌&&◌, ◌||◌, T, ◌==◌, nat_eq, refl}
-use Rattle.std.proofs.Common.{⊎_elim, arith, eqb-true}
+use Rattle.std.proofs.Common.{◌≡◌, ℕ, true, not, ◌&&◌, ◌||◌, T, ◌==◌, nat_eq, refl, ⊎_elim, arith, eqb-true}
 use Rattle.lemmas.specs.Bools.{both, either, implied, T_is}
 use Rattle.lemmas.specs.Ranges.{each, each_at}
 use Rattle.rules.specs.declared.Entry.TheVariants.{Reply}

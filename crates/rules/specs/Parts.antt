@@ -6,10 +6,10 @@ use Rattle.rules.specs.declared.Entry.TheVariants.{Invalid, Ignore, Move, Forget
 
 -- a seat's last word asked for again, the send that ends the seat, and that send again
 unfoldable pub late_of : ℕ → ℕ → Bool → ℕ → Entry
-late_of home word isSplit s = cond isSplit (cond (s == home) (Reply word) Ignore) (cond (s == 12) (Reply word) Invalid)
+late_of home word is_split s = cond is_split (cond (s == home) (Reply word) Ignore) (cond (s == 12) (Reply word) Invalid)
 
 unfoldable pub ends_of : ℕ → Bool → Entry
-ends_of home isSplit = cond isSplit (Forget home) (Forget 12)
+ends_of home is_split = cond is_split (Forget home) (Forget 12)
 
 unfoldable pub again_of : ℕ → Bool → ℕ → Entry
-again_of home isSplit s = cond isSplit (cond (s == home) (Move home) Invalid) (cond (s == 12) (Move 12) Invalid)
+again_of home is_split s = cond is_split (cond (s == home) (Move home) Invalid) (cond (s == 12) (Move 12) Invalid)

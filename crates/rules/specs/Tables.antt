@@ -136,9 +136,9 @@ one_of [] s = false
 one_of (k ∷ ks) s = s == k || one_of ks s
 
 abbrev pub speaks : Line → Bool → ℕ → ℕ → Bool
-speaks (P k ss e) isSplit m s = m == k && not isSplit && one_of ss s
-speaks (S k ss e) isSplit m s = m == k && isSplit && one_of ss s
-speaks (B k ss e) isSplit m s = m == k && one_of ss s
+speaks (P k ss e) is_split m s = m == k && not is_split && one_of ss s
+speaks (S k ss e) is_split m s = m == k && is_split && one_of ss s
+speaks (B k ss e) is_split m s = m == k && one_of ss s
 
 abbrev pub says : Line → Entry
 says (P k ss e) = e
@@ -146,8 +146,8 @@ says (S k ss e) = e
 says (B k ss e) = e
 
 abbrev pub look : List Line → Bool → ℕ → ℕ → Entry
-look [] isSplit m s = Invalid
-look (l ∷ ls) isSplit m s = cond (speaks l isSplit m s) (says l) (look ls isSplit m s)
+look [] is_split m s = Invalid
+look (l ∷ ls) is_split m s = cond (speaks l is_split m s) (says l) (look ls is_split m s)
 
 -- "A received move has action 0 unless "forget" stands by it."
 abbrev pub as_received : ℕ → Entry → Entry
@@ -162,13 +162,13 @@ as_sent s (Forget next) = Forget next
 as_sent s (Reply m) = Reply m
 
 unfoldable pub coordinator_receives : Bool → ℕ → ℕ → Entry
-coordinator_receives isSplit m s = as_received s (look coordinator_receives_lines isSplit m s)
+coordinator_receives is_split m s = as_received s (look coordinator_receives_lines is_split m s)
 
 unfoldable pub coordinator_sends : Bool → ℕ → ℕ → Entry
-coordinator_sends isSplit m s = as_sent s (look coordinator_sends_lines isSplit m s)
+coordinator_sends is_split m s = as_sent s (look coordinator_sends_lines is_split m s)
 
 unfoldable pub participant_receives : Bool → ℕ → ℕ → Entry
-participant_receives isSplit m s = as_received s (look participant_receives_lines isSplit m s)
+participant_receives is_split m s = as_received s (look participant_receives_lines is_split m s)
 
 unfoldable pub participant_sends : Bool → ℕ → ℕ → Entry
-participant_sends isSplit m s = as_sent s (look participant_sends_lines isSplit m s)
+participant_sends is_split m s = as_sent s (look participant_sends_lines is_split m s)

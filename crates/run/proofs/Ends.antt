@@ -2,13 +2,9 @@
 -- The argument: an event that the tables do not list is refused 12, 13 or 14, whichever test fails first; one that they list is known
 -- and moved that way, so the tables answer it, unless its activity's direction is the other.
 -- Assumes nothing.
-use mathlib.Core.Path.{◌≡◌, refl, sym, ap, ◌∙◌}
-use mathlib.Core.Bool.{Bool, true, false, false≢true, and-false}
-use mathlib.Core.List.{List}
-use Prim.Native.Nat.{ℕ, ◌≤◌, ◌<◌}
-use native.Mathlib.Omega.{arith}
-use lib.Dec.{eqb}
-use borrow.Author.Tests.{eq-eqb, ne_eqb, lt-ltb, le-ltb, le-leb}
+use Rattle.std.proofs.Common.{◌≡◌, refl, sym, ap, ◌∙◌, Bool, true, false, List, ℕ, ◌≤◌, ◌<◌, arith, eqb, eq-eqb, ne_eqb, lt-ltb, le-ltb, le-leb}
+use Rattle.std.proofs.lemmas.Bool.{false≢true}
+use mathlib.Core.Bool.{and-false}
 use Rattle.lemmas.specs.Bools.{both_of}
 use Rattle.records.specs.declared.Event.{Event}
 use Rattle.rules.specs.declared.Entry.{Entry}

@@ -1,12 +1,6 @@
 -- One turn of the loop over events, and the ends of a run.
 -- Assumes nothing.
-use mathlib.Core.Path.{◌≡◌, refl, sym, ap, ◌∙◌}
-use mathlib.Core.List.{List, [], ◌∷◌, ◌++◌}
-use Prim.Native.Nat.{ℕ, ◌+◌, ◌*◌, ◌/◌, ◌%◌, ◌≤◌, ◌<◌}
-use native.Mathlib.Numerals.{add-one}
-use native.Mathlib.Omega.{arith}
-use lib.ListN.{length}
-use borrow.Author.Tests.{eq-eqb, ne_eqb, lt-ltb, le-ltb}
+use Rattle.std.proofs.Common.{◌≡◌, refl, sym, ap, ◌∙◌, List, [], ◌∷◌, ◌++◌, ℕ, ◌+◌, ◌*◌, ◌/◌, ◌%◌, ◌≤◌, ◌<◌, add-one, arith, length, eq-eqb, ne_eqb, lt-ltb, le-ltb}
 use Rattle.records.specs.declared.Event.{Event}
 use Rattle.records.specs.Records.{placed, flat, first_events, event_at}
 use Rattle.records.specs.Laws.{placed_next, flat_append, length_flat, length_first_events}

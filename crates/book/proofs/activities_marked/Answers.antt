@@ -2,10 +2,7 @@
 -- all were.
 -- Assumes nothing.
 -- there are at most as many activities as places
-use mathlib.Core.Path.{sym, ◌∙◌, ap, subst}
-use Prim.Native.Nat.{ℕ, ◌<◌}
-use native.Mathlib.Omega.{arith}
-use borrow.Author.Tests.{eqb-true}
+use Rattle.std.proofs.Common.{sym, ◌∙◌, ap, subst, ℕ, ◌<◌, arith, eqb-true}
 use Rattle.lemmas.specs.Walks.{every_none, every_more, walk_end, walk_left}
 use Rattle.book.specs.declared.Activity.{Activity}
 use Rattle.book.specs.Book.{activity_good, activities_good}

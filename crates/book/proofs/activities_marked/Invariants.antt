@@ -2,9 +2,7 @@
 -- all were.
 -- Assumes nothing.
 -- there are at most as many activities as places
-use mathlib.Core.Path.{◌≡◌}
-use mathlib.Core.Bool.{true}
-use Prim.Native.Nat.{◌-◌, ◌≤◌}
+use Rattle.std.proofs.Common.{◌≡◌, true, ◌-◌, ◌≤◌}
 use Rattle.lemmas.specs.Walks.{every}
 use Rattle.book.specs.Book.{activity_good_at}
 use Rattle.book.specs.Marks.{Marked}

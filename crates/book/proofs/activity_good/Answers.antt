@@ -1,12 +1,8 @@
 -- Of each kind the sum says what the definition says.
 -- Assumes nothing.
-use mathlib.Core.Path.{◌≡◌, sym, ◌∙◌}
-use mathlib.Core.Bool.{false, cond, ◌&&◌, and-false}
-use mathlib.Core.Logic.{⊎_elim}
-use Prim.Native.Nat.{ℕ, ◌+◌, ◌*◌, ◌≤◌, ◌<◌}
-use native.Mathlib.Omega.{arith}
-use lib.Dec.{eqb, leb}
-use borrow.Author.Tests.{eq-eqb, ne_eqb, le-leb, lt-leb}
+use Rattle.std.proofs.Common.{◌≡◌, sym, ◌∙◌, false, cond, ◌&&◌, ⊎_elim, ℕ, ◌+◌, ◌*◌, ◌≤◌, ◌<◌, arith, eqb, leb, eq-eqb, ne_eqb, le-leb}
+use mathlib.Core.Bool.{and-false}
+use Rattle.std.proofs.lemmas.Bool.{lt-leb}
 use Rattle.lemmas.specs.Orders.{same_or, below_or}
 use Rattle.book.specs.Book.{activity_good}
 use Rattle.book.proofs.activity_good.Goals as goal

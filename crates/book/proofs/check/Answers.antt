@@ -1,7 +1,6 @@
 -- Each test that fails is the first to fail, so its number is the definition's. A good header has the shape that the walks ask for.
 -- Assumes nothing.
-use mathlib.Core.Path.{sym, ◌∙◌}
-use borrow.Author.Tests.{le-ltb, lt-ltb}
+use Rattle.std.proofs.Common.{sym, ◌∙◌, le-ltb, lt-ltb}
 use Rattle.book.specs.Book.{book_refusal}
 use Rattle.book.specs.Good.{shaped}
 use Rattle.book.proofs.check.Goals as goal

@@ -1,6 +1,6 @@
 -- Each test that fails is the first to fail, so its number is the definition's; one walk finds both 4 and 5, or neither (`Fits`).
 -- Assumes nothing.
-use mathlib.Core.Path.{sym, ◌∙◌}
+use Rattle.std.proofs.Common.{sym, ◌∙◌}
 use Rattle.book.proofs.Fits.{fit_seats}
 use Rattle.book.proofs.few_refused.Goals as goal
 

@@ -1,7 +1,6 @@
 -- The five numbers are read where the definition reads them.
 -- Assumes nothing.
-use lib.ListN.{length}
-use mathlib.Core.Path.{◌∙◌}
+use Rattle.std.proofs.Common.{length, ◌∙◌}
 use Rattle.book.specs.Book.{numbers_good, head_good}
 use Rattle.book.proofs.head_good.Goals as goal
 

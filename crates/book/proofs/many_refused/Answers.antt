@@ -1,6 +1,6 @@
 -- As `few_refused`, with the walks over marks. At first no activity has any (`marked_none`).
 -- Assumes nothing.
-use mathlib.Core.Path.{sym, ◌∙◌}
+use Rattle.std.proofs.Common.{sym, ◌∙◌}
 use Rattle.book.specs.Marks.{marked_none}
 use Rattle.book.proofs.Fits.{fit_seats}
 use Rattle.book.proofs.many_refused.Goals as goal

@@ -1,7 +1,8 @@
 -- Each test that fails makes the conjunction false; with all passed it is the last.
 -- Assumes nothing.
+use Rattle.std.proofs.Common.{eq-eqb, ne_eqb, le-leb}
+use Rattle.std.proofs.lemmas.Bool.{lt-leb}
 use Rattle.book.specs.Book.{numbers_good}
-use borrow.Author.Tests.{eq-eqb, ne_eqb, le-leb, lt-leb}
 use Rattle.book.proofs.numbers_good.Goals as goal
 
 pub returns-then-a-gt-ACTIVITIES_MOST : goal.returns-then-a-gt-ACTIVITIES_MOST

@@ -1,7 +1,6 @@
 -- Two stores, and the second finds the header that the first left.
 -- Assumes nothing.
-use mathlib.Core.Path.{sym, ap, subst}
-use native.Mathlib.Omega.{arith}
+use Rattle.std.proofs.Common.{sym, ap, subst, arith}
 use Rattle.book.specs.Layout.{Shaped, activity_count}
 use Rattle.book.specs.Lens.{state_shaped, state_at16}
 use Rattle.book.proofs.put_outcome.Goals as goal

@@ -1,10 +1,6 @@
 -- A seat of no activity does not fit; another where its activity's marks have it (`fits_marked`), and every activity is good (`lot_good`).
 -- Assumes nothing.
-use mathlib.Core.Path.{◌≡◌, ◌∙◌, ap}
-use mathlib.Core.Bool.{Bool, true, false}
-use mathlib.Core.List.{List}
-use Prim.Native.Nat.{ℕ, ◌≤◌, ◌<◌}
-use native.Mathlib.Omega.{arith}
+use Rattle.std.proofs.Common.{◌≡◌, ◌∙◌, ap, Bool, true, false, List, ℕ, ◌≤◌, ◌<◌, arith}
 use Rattle.rules.specs.Marks.{marked_in}
 use Rattle.book.specs.declared.Seat.{Seat}
 use Rattle.book.specs.declared.Activity.{Activity}

@@ -1,8 +1,7 @@
 -- The two halves of the definition in order.
 -- Assumes nothing.
+use Rattle.std.proofs.Common.{arith, le-ltb, lt-ltb}
 use Rattle.book.specs.Book.{seat_good}
-use native.Mathlib.Omega.{arith}
-use borrow.Author.Tests.{le-ltb, lt-ltb}
 use Rattle.book.proofs.seat_good.Goals as goal
 
 pub returns-then-a-x : goal.returns-then-a-x

@@ -1,9 +1,8 @@
 -- The seat that is read is the one that the definition tests.
 -- Assumes nothing.
-use Prim.Native.Nat.{ℕ}
+use Rattle.std.proofs.Common.{ℕ, ◌∙◌, ap}
 use Rattle.book.specs.declared.Seat.{Seat}
 use Rattle.book.specs.Book.{seat_good}
-use mathlib.Core.Path.{◌∙◌, ap}
 use Rattle.book.proofs.seat_good_at.Goals as goal
 
 pub returns : goal.returns

@@ -1,7 +1,6 @@
 -- The seat is looked up in the marks of all (`looked_up`).
 -- Assumes nothing.
-use mathlib.Core.Path.{◌∙◌, ap}
-use lib.ListN.{get_or}
+use Rattle.std.proofs.Common.{◌∙◌, ap, get_or}
 use Rattle.rules.specs.Marks.{marked_in}
 use Rattle.book.specs.declared.Seat.{Seat}
 use Rattle.book.specs.Marks.{looked_up}

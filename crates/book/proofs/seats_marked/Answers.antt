@@ -1,10 +1,8 @@
 -- A walk that is left at the first record that fails: what was passed is good, and the end tells whether all were.
 -- Assumes nothing.
-use borrow.Author.Rules.{rules}
+use Rattle.std.proofs.Common.{rules, arith, sym, ◌∙◌}
 use Rattle.lemmas.specs.Walks.{every_none, every_more, walk_end, walk_left}
-use native.Mathlib.Omega.{arith}
 use Rattle.book.specs.Book.{seats_fit}
-use mathlib.Core.Path.{sym, ◌∙◌}
 use Rattle.book.proofs.seats_marked.Goals as goal
 use Rattle.book.proofs.seats_marked.Goals.{else-walk-test, then-walk-test+then-not-seat_marked}
 

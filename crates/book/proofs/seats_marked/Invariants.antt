@@ -1,10 +1,8 @@
 -- A walk that is left at the first record that fails: what was passed is good, and the end tells whether all were.
 -- Assumes nothing.
+use Rattle.std.proofs.Common.{◌-◌, ◌≤◌, true, ◌≡◌}
 use Rattle.lemmas.specs.Walks.{every}
-use Prim.Native.Nat.{◌-◌, ◌≤◌}
 use Rattle.book.specs.Book.{fits_at}
-use mathlib.Core.Bool.{true}
-use mathlib.Core.Path.{◌≡◌}
 use Rattle.book.proofs.seats_marked.Given as goal
 
 abbrev pub invariant-walk : goal.invariant-walk

@@ -1,6 +1,6 @@
 -- Where every seat is good, it is a direction that does not suit (`unfit_direction`).
 -- Assumes nothing.
-use mathlib.Core.Path.{sym, ◌∙◌}
+use Rattle.std.proofs.Common.{sym, ◌∙◌}
 use Rattle.book.proofs.Fits.{unfit_direction}
 use Rattle.book.proofs.seats_refused.Goals as goal
 

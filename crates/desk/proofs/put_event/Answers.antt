@@ -1,6 +1,6 @@
 -- The event's four fields and its answer's four.
 -- Assumes nothing.
-use native.Mathlib.Omega.{arith}
+use Rattle.std.proofs.Common.{arith}
 use Rattle.desk.specs.Lines.{put_event}
 use Rattle.desk.proofs.put_event.Goals as goal
 

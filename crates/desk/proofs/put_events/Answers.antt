@@ -1,10 +1,6 @@
 -- After i turns the lines of the first i events stand from `from` on, each in at most 48 bytes.
 -- Assumes nothing.
-use Prim.Native.Nat.{◌+◌, ◌*◌, ◌/◌}
-use native.Mathlib.Omega.{arith}
-use mathlib.Core.Path.{◌≡◌, refl, ◌∙◌, ap}
-use mathlib.Core.List.{◌++◌}
-use lib.ListN.{length}
+use Rattle.std.proofs.Common.{◌+◌, ◌*◌, ◌/◌, arith, ◌≡◌, refl, ◌∙◌, ap, ◌++◌, length}
 use Rattle.records.specs.declared.Event.{Event}
 use Rattle.records.specs.Records.{first_events}
 use Rattle.demands.specs.Groups.{first_answers}

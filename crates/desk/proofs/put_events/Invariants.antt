@@ -1,8 +1,6 @@
 -- After i turns the lines of the first i events stand from `from` on, each in at most 48 bytes.
 -- Assumes nothing.
-use Prim.Native.Nat.{◌+◌, ◌*◌, ◌-◌, ◌/◌, ◌≤◌}
-use mathlib.Core.Path.{◌≡◌}
-use lib.ListN.{length}
+use Rattle.std.proofs.Common.{◌+◌, ◌*◌, ◌-◌, ◌/◌, ◌≤◌, ◌≡◌, length}
 use Rattle.records.specs.Records.{first_events}
 use Rattle.demands.specs.Groups.{first_answers}
 use Rattle.text.specs.Text.{Put}

@@ -1,6 +1,6 @@
 -- Four fields, one after the other.
 -- Assumes nothing.
-use native.Mathlib.Omega.{arith}
+use Rattle.std.proofs.Common.{arith}
 use Rattle.desk.specs.Lines.{put_fields}
 use Rattle.desk.proofs.put_fields.Goals as goal
 

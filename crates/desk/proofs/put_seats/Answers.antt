@@ -1,8 +1,6 @@
 -- After n turns the lines of the first n seats stand from `from` on, each in at most 17 bytes.
 -- Assumes nothing.
-use native.Mathlib.Omega.{arith}
-use native.Mathlib.Numerals.{add-one}
-use mathlib.Core.Path.{◌≡◌, refl, sym, ◌∙◌, ap}
+use Rattle.std.proofs.Common.{arith, add-one, ◌≡◌, refl, sym, ◌∙◌, ap}
 use Rattle.book.specs.Layout.{seat_count}
 use Rattle.text.specs.Laws.{put_length, put_none, put_same, joined}
 use Rattle.desk.specs.Desk.{seat_lines}

@@ -1,8 +1,6 @@
 -- After n turns the lines of the first n seats stand from `from` on, each in at most 17 bytes.
 -- Assumes nothing.
-use Prim.Native.Nat.{◌+◌, ◌*◌, ◌-◌, ◌≤◌}
-use mathlib.Core.Path.{◌≡◌}
-use lib.ListN.{length}
+use Rattle.std.proofs.Common.{◌+◌, ◌*◌, ◌-◌, ◌≤◌, ◌≡◌, length}
 use Rattle.book.specs.Layout.{seat_count}
 use Rattle.text.specs.Text.{Put}
 use Rattle.desk.specs.Desk.{seat_line_most, seat_lines}

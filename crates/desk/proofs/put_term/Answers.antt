@@ -1,6 +1,6 @@
 -- The word, a space and the number, one after the other.
 -- Assumes nothing.
-use native.Mathlib.Omega.{arith}
+use Rattle.std.proofs.Common.{arith}
 use Rattle.desk.specs.Lines.{put_term}
 use Rattle.desk.proofs.put_term.Goals as goal
 

@@ -1,7 +1,6 @@
 -- The run takes the book and the events (`ready`), so the book is the one after them and the answers are theirs.
 -- Assumes nothing.
-use Rattle.std.proofs.Common.{ℕ, ◌≡◌, ◌≤◌, sym, ◌∙◌, ap, subst, List, ◌++◌, length, take, drop, length-take-le, arith}
-use Rattle.std.proofs.Math.Seq.{take_at}
+use Rattle.std.proofs.Common.{ℕ, ◌≡◌, ◌≤◌, sym, ◌∙◌, ap, subst, List, ◌++◌, length, take, drop, length-take-le, arith, take_at}
 use Rattle.book.specs.Layout.{Shaped}
 use Rattle.text.specs.Laws.{put_same}
 use Rattle.desk.specs.Journals.{run_shaped, run_after}

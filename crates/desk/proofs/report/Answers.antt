@@ -1,8 +1,6 @@
 -- Each way out is one case of `judged`.
 -- Assumes nothing.
-use native.Mathlib.Omega.{arith}
-use mathlib.Core.Path.{refl, sym, ◌∙◌}
-use lib.Seq.{length-take-le}
+use Rattle.std.proofs.Common.{arith, refl, sym, ◌∙◌, length-take-le}
 use Rattle.desk.specs.Desk.{bad_book}
 use Rattle.desk.specs.Ends.{too_short, cut_off, book_refused, book_good, reported}
 use Rattle.desk.proofs.report.Goals as goal

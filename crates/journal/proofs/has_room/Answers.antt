@@ -1,7 +1,6 @@
 -- `journal::has_room_lem` meets its contract: both tests hold, or one of them fails.
 -- Assumes nothing.
-use native.Mathlib.Omega.{arith}
-use mathlib.Core.Path.{sym}
+use Rattle.std.proofs.Common.{arith, sym}
 use Rattle.journal.specs.Laws.{room_left, area_full, run_full}
 use Rattle.journal.proofs.has_room.Goals as goal
 

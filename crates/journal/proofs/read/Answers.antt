@@ -1,8 +1,7 @@
 -- `journal::read` meets its contract: a text that is too long is refused; for any other there is room aside for its events.
 -- Assumes nothing.
-use Prim.Native.Nat.{ℕ}
-use native.Mathlib.Omega.{arith}
-use lib.ListN.{length-replicate}
+use Rattle.std.proofs.Common.{ℕ, arith}
+use Rattle.std.proofs.lemmas.List.{length-replicate}
 use Rattle.journal.proofs.Keeping.{read_none}
 use Rattle.journal.proofs.read.Goals as goal
 

@@ -2,9 +2,7 @@
 -- The measure is what is left of the text.
 -- Assumes nothing.
 -- what the calls say of the line at hand
-use Prim.Native.Nat.{◌≤◌, ◌-◌, ◌*◌, min}
-use mathlib.Core.Path.{◌≡◌}
-use lib.ListN.{length}
+use Rattle.std.proofs.Common.{◌≤◌, ◌-◌, ◌*◌, min, ◌≡◌, length}
 use Rattle.journal.proofs.Keeping.{Kept}
 use Rattle.journal.proofs.read_lines.Given as goal
 

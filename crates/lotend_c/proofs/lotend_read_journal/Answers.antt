@@ -1,9 +1,6 @@
 -- What `journal::read` gives, in numbers of 32 bits: they fit (`small`).
 -- Assumes nothing.
-use borrow.Author.Rules.{rules}
-use mathlib.Core.Path.{ap}
-use native.Mathlib.Omega.{arith}
-use lib.ListN.{length}
+use Rattle.std.proofs.Common.{rules, ap, arith, length}
 use Rattle.journal.specs.declared.Reading.{Reading}
 use Rattle.lotend_c.specs.Small.{small}
 use Rattle.lotend_c.proofs.lotend_read_journal.Goals as goal

@@ -1,9 +1,8 @@
 -- Four stores in a row are one part put at a place (`sets-eq`).
 -- Assumes nothing.
-use mathlib.Core.List.{◌∷◌, []}
-use native.Mathlib.Omega.{arith}
-use native.Mathlib.Numerals.{add-one, add-two, add-three}
-use lib.Seq.{sets-eq}
+use Rattle.std.proofs.Common.{◌∷◌, [], arith, add-one}
+use native.Mathlib.Numerals.{add-two, add-three}
+use Rattle.std.proofs.lemmas.List.Edits.{sets-eq}
 use Rattle.records.specs.Records.{placed}
 use Rattle.records.proofs.put_four.Goals as goal
 

@@ -1,6 +1,6 @@
 -- A byte is below 256, so the sum fits and is below 65,536.
 -- Assumes nothing.
-use borrow.Author.Rules.{rules}
+use Rattle.std.proofs.Common.{rules}
 use Rattle.records.specs.Records.{at16}
 use Rattle.records.proofs.u16_at.Goals as goal
 

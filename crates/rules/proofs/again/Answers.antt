@@ -1,7 +1,7 @@
 -- The code's tests are the definition's.
 -- Assumes nothing.
-use Rattle.rules.specs.Parts.{again_of}
 use Rattle.std.proofs.Common.{eq-eqb, ne_eqb}
+use Rattle.rules.specs.Parts.{again_of}
 use Rattle.rules.proofs.again.Goals as goal
 
 pub returns-then-at-home : goal.returns-then-at-home

@@ -1,7 +1,7 @@
 -- Arm by arm: what the arm says is what the lines say at each state that reaches it (`Law`), a test that antt computes.
 -- Assumes nothing.
-use Rattle.rules.specs.Parts.{late_of}
 use Rattle.std.proofs.Common.{◌≡◌, ℕ, Bool, [], ◌∷◌, refl, arith, rules}
+use Rattle.rules.specs.Parts.{late_of}
 use Rattle.rules.specs.Tables.{coordinator_receives, coordinator_receives_lines, look, as_received}
 use Rattle.rules.proofs.Law.{Table, arm, span, span_of, rest, either}
 use Rattle.rules.proofs.coordinator_receives.Goals as goal

@@ -1,7 +1,7 @@
 -- The code's tests are the definition's.
 -- Assumes nothing.
-use Rattle.rules.specs.Parts.{late_of}
 use Rattle.std.proofs.Common.{eq-eqb, ne_eqb}
+use Rattle.rules.specs.Parts.{late_of}
 use Rattle.rules.proofs.late.Goals as goal
 
 pub returns-then-at-home : goal.returns-then-at-home

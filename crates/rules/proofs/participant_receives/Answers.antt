@@ -1,7 +1,7 @@
 -- Arm by arm: what the arm says is what the lines say at each state that reaches it (`Law`), a test that antt computes.
 -- Assumes nothing.
-use Rattle.rules.specs.Parts.{late_of}
 use Rattle.std.proofs.Common.{◌≡◌, ℕ, Bool, List, [], ◌∷◌, refl, arith, rules}
+use Rattle.rules.specs.Parts.{late_of}
 use Rattle.rules.specs.Tables.{participant_receives, participant_receives_lines, look, as_received}
 use Rattle.rules.proofs.Law.{Table, arm, span, span_of, rest, either, is_split, is_plain}
 use Rattle.rules.proofs.participant_receives.Goals as goal

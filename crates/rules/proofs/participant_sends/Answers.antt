@@ -1,7 +1,7 @@
 -- Arm by arm: what the arm says is what the lines say at each state that reaches it (`Law`), a test that antt computes.
 -- Assumes nothing.
-use Rattle.rules.specs.Parts.{ends_of, again_of}
 use Rattle.std.proofs.Common.{◌≡◌, ℕ, Bool, [], ◌∷◌, refl, arith, rules}
+use Rattle.rules.specs.Parts.{ends_of, again_of}
 use Rattle.rules.specs.Tables.{participant_sends, participant_sends_lines, look, as_sent}
 use Rattle.rules.proofs.Law.{Table, arm, arm_of, span, span_of, rest, either}
 use Rattle.rules.proofs.participant_sends.Goals as goal

@@ -1,9 +1,6 @@
 -- Of directions up to 2 only one and the other are 3 together.
 -- Assumes nothing.
-use mathlib.Core.Path.{◌≡◌}
-use Prim.Native.Nat.{ℕ, ◌+◌, ◌≤◌}
-use native.Mathlib.Omega.{arith}
-use lib.Dec.{T, eqb}
+use Rattle.std.proofs.Common.{◌≡◌, ℕ, ◌+◌, ◌≤◌, arith, T, eqb}
 use Rattle.lemmas.specs.Bools.{same, same_is}
 use Rattle.lemmas.specs.Ranges.{each, each_at}
 use Rattle.run.specs.Step.{clashes}

@@ -1,6 +1,6 @@
 -- The code's tests are the definition's.
 -- Assumes nothing.
-use mathlib.Core.Path.{refl}
+use Rattle.std.proofs.Common.{refl}
 use Rattle.run.specs.Step.{known}
 use Rattle.run.proofs.is_known.Goals as goal
 

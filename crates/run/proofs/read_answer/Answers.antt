@@ -1,6 +1,6 @@
 -- The fields are read where the definition reads them.
 -- Assumes nothing.
-use mathlib.Core.Path.{refl}
+use Rattle.std.proofs.Common.{refl}
 use Rattle.run.specs.Step.{answer_at}
 use Rattle.run.proofs.read_answer.Goals as goal
 

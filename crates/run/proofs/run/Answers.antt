@@ -1,7 +1,6 @@
 -- Each refusal is the first that applies; a good run is `work`.
 -- Assumes nothing.
-use mathlib.Core.Path.{sym, ◌∙◌}
-use native.Mathlib.Omega.{arith}
+use Rattle.std.proofs.Common.{sym, ◌∙◌, arith}
 use Rattle.run.proofs.Turns.{refuses, ends, bad_book_lem, bad_length, too_many, no_room, fine}
 use Rattle.run.proofs.run.Goals as goal
 

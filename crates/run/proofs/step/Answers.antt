@@ -1,8 +1,6 @@
 -- Each way out is an end of the definitions (`Ends`). A good book has the shape that the accessors ask for, and its seats have their states.
 -- Assumes nothing.
-use mathlib.Core.Path.{sym, ◌∙◌, ap}
-use Prim.Native.Nat.{◌≤◌, ◌<◌}
-use native.Mathlib.Omega.{arith}
+use Rattle.std.proofs.Common.{sym, ◌∙◌, ap, ◌≤◌, ◌<◌, arith}
 use Rattle.rules.specs.Rules.{answer_of, legal}
 use Rattle.book.specs.declared.Activity.{Activity}
 use Rattle.book.specs.declared.Seat.{Seat}

@@ -1,10 +1,6 @@
 -- Where nothing is asked for, the direction stays as it is.
 -- Assumes nothing.
-use mathlib.Core.Path.{◌≡◌, sym, ◌∙◌, ap}
-use mathlib.Core.List.{List}
-use Prim.Native.Nat.{ℕ, ◌<◌}
-use native.Mathlib.Omega.{arith}
-use borrow.Author.Tests.{eq-eqb, ne_eqb}
+use Rattle.std.proofs.Common.{◌≡◌, sym, ◌∙◌, ap, List, ℕ, ◌<◌, arith, eq-eqb, ne_eqb}
 use Rattle.book.specs.Layout.{activity_count, activity_of, seat_of, put_state, moved, Shaped}
 use Rattle.book.specs.Lens.{moved_kept}
 use Rattle.run.specs.Step.{turned}

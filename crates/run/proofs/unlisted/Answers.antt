@@ -1,7 +1,6 @@
 -- A test is 1 where it passes and 0 where it does not.
 -- Assumes nothing.
-use mathlib.Core.Path.{◌∙◌}
-use Prim.Native.Nat.{◌+◌}
+use Rattle.std.proofs.Common.{◌∙◌, ◌+◌}
 use mir.Val.{bool_byte}
 use Rattle.lemmas.specs.Bools.{as_number}
 use Rattle.rules.specs.Rules.{moves}

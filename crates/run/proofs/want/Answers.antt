@@ -1,9 +1,6 @@
 -- The code's three tests at once are the definition's.
 -- Assumes nothing.
-use mathlib.Core.Path.{◌≡◌, refl, ◌∙◌}
-use mathlib.Core.Bool.{Bool, true, false, cond, ◌&&◌}
-use Prim.Native.Nat.{ℕ}
-use lib.Dec.{eqb}
+use Rattle.std.proofs.Common.{◌≡◌, refl, ◌∙◌, Bool, true, false, cond, ◌&&◌, ℕ, eqb}
 use Rattle.rules.specs.Outcome.{asked_by}
 use Rattle.run.specs.Step.{asked, wanted}
 use Rattle.run.proofs.want.Goals as goal

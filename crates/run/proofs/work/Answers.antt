@@ -1,7 +1,6 @@
 -- After i turns the book and the area are those after the first i events; the book is good all along (`run_good`).
 -- Assumes nothing.
-use native.Mathlib.Omega.{arith}
-use mathlib.Core.Path.{◌≡◌, refl, ◌∙◌, ap}
+use Rattle.std.proofs.Common.{arith, ◌≡◌, refl, ◌∙◌, ap}
 use Rattle.records.specs.Records.{first_events}
 use Rattle.book.specs.Book.{book_refusal}
 use Rattle.book.specs.Good.{good_to}

@@ -1,8 +1,6 @@
 -- After i turns the book and the area are those after the first i events; the book is good all along (`run_good`).
 -- Assumes nothing.
-use Prim.Native.Nat.{◌≤◌, ◌-◌}
-use mathlib.Core.Path.{◌≡◌}
-use lib.ListN.{length}
+use Rattle.std.proofs.Common.{◌≤◌, ◌-◌, ◌≡◌, length}
 use Rattle.records.specs.Records.{first_events}
 use Rattle.run.specs.Run.{after, filled}
 use Rattle.run.proofs.work.Given as goal

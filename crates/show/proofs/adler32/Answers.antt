@@ -1,7 +1,6 @@
 -- `show::adler32` meets its contract. The invariant: the whole part's sum is that of what is left, after the two sums so far.
 -- Assumes nothing.
-use Rattle.std.proofs.Common.{◌<◌, ◌≤◌, length, sym, ◌∙◌, refl, add-one, arith, drop-cons}
-use Rattle.std.proofs.Math.ListN.{drop_of_length-le}
+use Rattle.std.proofs.Common.{◌<◌, ◌≤◌, length, sym, ◌∙◌, refl, add-one, arith, drop-cons, drop_of_length-le}
 use Rattle.show.specs.Adler.{adler}
 use Rattle.show.proofs.adler32.Goals as goal
 

@@ -1,6 +1,6 @@
 -- `show::bytes` meets its contract: each branch is one case of `shown`.
 -- Assumes nothing.
-use borrow.Author.Tests.{lt-ltb, le-ltb}
+use Rattle.std.proofs.Common.{lt-ltb, le-ltb}
 use Rattle.show.specs.Shown.{shown}
 use Rattle.show.proofs.bytes.Goals as goal
 

@@ -1,6 +1,6 @@
 -- One store is one byte at a place (`put_one`).
 -- Assumes nothing.
-use native.Mathlib.Omega.{arith}
+use Rattle.std.proofs.Common.{arith}
 use Rattle.text.specs.Laws.{put_one}
 use Rattle.text.proofs.put_byte.Goals as goal
 

@@ -1,6 +1,6 @@
 -- The number, and the byte where it ends.
 -- Assumes nothing.
-use native.Mathlib.Omega.{arith}
+use Rattle.std.proofs.Common.{arith}
 use Rattle.text.specs.Laws.{joined}
 use Rattle.text.proofs.put_field.Goals as goal
 
