@@ -1,6 +1,6 @@
 -- What `journal::read` gives, in numbers of 32 bits: they fit (`small`).
 -- Assumes nothing.
-use Rattle.std.proofs.Common.{rules, ap, arith, length}
+use Rattle.std.proofs.Common.{ap, arith, length}
 use Rattle.journal.specs.declared.Reading.{Reading}
 use Rattle.lotend_c.specs.Small.{small}
 use Rattle.lotend_c.proofs.lotend_read_journal.Goals as goal
