@@ -5,8 +5,8 @@
 export CARGO_TARGET_DIR="$root/target/cargo"
 
 if [ -z "${LOTEND_ARCHIVE_DIR:-}" ]; then
-    export LOTEND_ARCHIVE_DIR="$root/target/staticlib"
-    [ -f "$LOTEND_ARCHIVE_DIR/liblotend_c.a" ] || (cd "$root" && rt staticlib lotend_c)
+    export LOTEND_ARCHIVE_DIR="$root/crates/lotend_c/out"
+    [ -f "$LOTEND_ARCHIVE_DIR/liblotend_c.a" ] || (cd "$root/crates/lotend_c" && rt lib)
 else
     LOTEND_ARCHIVE_DIR=$(cd "$LOTEND_ARCHIVE_DIR" && pwd)
 fi

@@ -126,7 +126,7 @@ def refusals_of(header):
 def main(driver):
     document = read_document((ROOT / "docs" / "REFUSALS.md").read_text())
     wrong = list(unshown(document, refusals_of((ROOT / "include" / "lotend.h").read_text())))
-    program = ROOT / "target" / "bin" / "lotend"
+    program = ROOT / "crates" / "lotend" / "out" / "lotend"
     subjects = [Paper(), Library(driver)] + ([Program(program)] if program.is_file() else [])
     for subject in subjects:
         examples = for_subject(subject, document.examples)

@@ -21,7 +21,7 @@ def text_of(path):
 
 
 def declared(text, name):
-    """Whether a file of specs declares the name: `name : ..`, a record or a type."""
+    """Whether a file of specs or proofs declares the name: `name : ..`, a record or a type."""
     word = re.escape(name)
     return re.search(rf"^\s*(?:abbrev |unfoldable )?(?:pub )?{word} :|\b(?:record|data) {word}\b",
                      text, re.MULTILINE)
@@ -31,9 +31,9 @@ def coded(text, name):
     return re.search(rf"\b(?:fn|struct|enum) {name}\b", text)
 
 
-def missing(path, names, found):
-    """The names, parted by commas, that are not found in the file's text."""
-    text = text_of(path)
+def missing(path, names, found, beside=None):
+    """The names, parted by commas, that are not found in the file's text, nor in the file beside it."""
+    text = text_of(path) + (text_of(beside) if beside else "")
     return [f"{path.relative_to(ROOT)}: {name}" for name in names.split(", ")
             if not found(text, name)]
 
@@ -51,7 +51,9 @@ def faults_of(quoted):
     """What is wrong with one quoted name; nothing where it is no name of the tree."""
     crates, paper = ROOT / "crates", ROOT / "tests" / "paper"
     if match := SPECIFIED.fullmatch(quoted):
-        return missing(crates / match["crate"] / "specs" / match["file"], match["names"], declared)
+        crate = crates / match["crate"]
+        return missing(crate / "specs" / match["file"], match["names"], declared,
+                       crate / "proofs" / match["file"])
     if match := CODED.fullmatch(quoted):
         return in_source(match["crate"], match["name"])
     if match := EDITED.fullmatch(quoted):
