@@ -90,8 +90,8 @@ seat_state a v x h k = both_of (both (ltb x.activity a) (has_state x.role x.tabl
 
 -- Seat n's state becomes v, and its activity's direction d.
 module _ (b : List ℕ) (n v d : ℕ) (g : Good b) (l : n < seat_count b)
-    (state-ok : has_state (seat_of b n).role (seat_of b n).table v ≡ true)
-    (direction-ok : activity_good (activity_of b (seat_of b n).activity).kind d ≡ true)
+    (state_allowed : has_state (seat_of b n).role (seat_of b n).table v ≡ true)
+    (direction_allowed : activity_good (activity_of b (seat_of b n).activity).kind d ≡ true)
     (mine : agrees (activity_of b (seat_of b n).activity).kind d (seat_of b n).role v ≡ true)
     (theirs : (role state : ℕ) → agrees (activity_of b (seat_of b n).activity).kind (activity_of b (seat_of b n).activity).direction role state ≡ true
     → agrees (activity_of b (seat_of b n).activity).kind d role state ≡ true) where
@@ -118,7 +118,7 @@ module _ (b : List ℕ) (n v d : ℕ) (g : Good b) (l : n < seat_count b)
   acts j jl =
       let jl₀ : j < activity_count b = omega (arith, moved_activities b n v d sh l kl) in
       ⊎_elim
-      (λ (e : j ≡ k). ap (activity_good_at b₂) e ∙ ap (λ (z : Activity). activity_good z.kind z.direction) (moved_activity b n v d sh l kl) ∙ direction-ok)
+      (λ (e : j ≡ k). ap (activity_good_at b₂) e ∙ ap (λ (z : Activity). activity_good z.kind z.direction) (moved_activity b n v d sh l kl) ∙ direction_allowed)
       (λ ne. ap (λ (z : Activity). activity_good z.kind z.direction) (moved_neighbour b n v d sh l kl j jl₀ ne) ∙ every_at (activity_good_at b) (activity_count b) j g.activities jl₀)
       (same_or j k)
 
@@ -129,7 +129,7 @@ module _ (b : List ℕ) (n v d : ℕ) (g : Good b) (l : n < seat_count b)
       ap (λ (a : ℕ). seat_good a (seat_of b₂ m)) (moved_activities b n v d sh l kl)
       ∙ ⊎_elim
       (λ (e : m ≡ n). ap (λ (i : ℕ). seat_good (activity_count b) (seat_of b₂ i)) e ∙ ap (seat_good (activity_count b)) (moved_seat b n v d sh l kl)
-      ∙ seat_state (activity_count b) v x (every_at (seat_good_at b) (seat_count b) n g.seats l) state-ok)
+      ∙ seat_state (activity_count b) v x (every_at (seat_good_at b) (seat_count b) n g.seats l) state_allowed)
       (λ ne. ap (seat_good (activity_count b)) (moved_other b n v d sh l kl m ne) ∙ every_at (seat_good_at b) (seat_count b) m g.seats ml₀)
       (same_or m n)
 

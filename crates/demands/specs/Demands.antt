@@ -64,7 +64,7 @@ module _ (b : List ℕ) (e : Event) (good : book_refusal b ≡ 0) (a : Answered 
   pub demand2_activities : (k : ℕ) → k < activity_count b → k ≢ (seat_of b e.seat).activity → activity_of (book_after b e) k ≡ activity_of b k
   demand2_activities = activities_stay b e a good
 
--- with the one_outcome rule for atomic activities: once a direction was asked for, no later event of that activity asks for the other
+-- with the one-outcome rule for atomic activities: once a direction was asked for, no later event of that activity asks for the other
 pub demand2_outcome : (b : List ℕ) → book_refusal b ≡ 0 → (e : Event) (es : List Event) (f : Event)
     → (answer_to b e).refusal ≡ 0 → want b e ≢ 0
     → (answer_to (after (book_after b e) es) f).refusal ≡ 0 → want (after (book_after b e) es) f ≢ 0

@@ -65,8 +65,8 @@ module _ (b : List ℕ) (e : Event) (l : e.seat < seat_count b) where
 
   -- what stands at the seat's place
   pub placed : seats_good b ≡ true → {s : Seat} {p : ℕ} → s ≡ seat_of b e.seat → p ≡ place_of s.role s.table s.state → entry_at p e.way e.message ≡ entry
-  placed g {s} {p} is-s is-p =
-      ap (λ (k : ℕ). entry_at k e.way e.message) (is-p ∙ (λ j. place_of (is-s j).role (is-s j).table (is-s j).state))
+  placed g {s} {p} is_s is_p =
+      ap (λ (k : ℕ). entry_at k e.way e.message) (is_p ∙ (λ j. place_of (is_s j).role (is_s j).table (is_s j).state))
       ∙ place_entry x.role x.table e.way e.message x.state (seat_has b e.seat g l)
 
   here : answer_to b e ≡ outcome_of y.direction w x.state (ruled x e.way e.message)

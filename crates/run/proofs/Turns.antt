@@ -21,17 +21,17 @@ module _ (b ev area : List ℕ) (i : ℕ) where
 
   pub turn_book : {b₁ b₂ : List ℕ} {e : Event} → b₁ ≡ after b (first_events ev i) → e ≡ event_at ev i → b₂ ≡ book_after b₁ e
       → b₂ ≡ after b (first_events ev (i + 1))
-  turn_book is_b is-e z =
-      z ∙ (λ j. book_after (is_b j) (is-e j)) ∙ rw (add-one i) (sym (after_joined b (first_events ev i) (event_at ev i ∷ [])))
+  turn_book is_b is_e z =
+      z ∙ (λ j. book_after (is_b j) (is_e j)) ∙ rw (add-one i) (sym (after_joined b (first_events ev i) (event_at ev i ∷ [])))
 
   pub turn_area : {b₁ l₁ l₂ : List ℕ} {e : Event} {a : Answer} → b₁ ≡ after b (first_events ev i) → e ≡ event_at ev i → a ≡ answer_to b₁ e
       → l₁ ≡ filled b ev area i → l₂ ≡ placed l₁ (4 * i) (answer_bytes a) → l₂ ≡ filled b ev area (i + 1)
-  turn_area {b₁} {l₁} {l₂} {e} {a} is_b is-e is-a is-l z =
+  turn_area {b₁} {l₁} {l₂} {e} {a} is_b is_e is_a is_l z =
       let last = answer_to (after b done) (event_at ev i) in
-      let s : a ≡ last = is-a ∙ (λ j. answer_to (is_b j) (is-e j)) in
+      let s : a ≡ last = is_a ∙ (λ j. answer_to (is_b j) (is_e j)) in
       let q : 4 * i + 4 ≡ 4 * (i + 1) = omega arith in
       let more : first_events ev (i + 1) ≡ done ++ (event_at ev i ∷ []) = ap (first_events ev) (add-one i) in
-      z ∙ (λ j. placed (is-l j) (4 * i) (answer_bytes (s j)))
+      z ∙ (λ j. placed (is_l j) (4 * i) (answer_bytes (s j)))
       ∙ placed_next (flat answer_bytes (answers b done)) area (answer_bytes last) (4 * i) filled_bytes
       ∙ sym (rw (more, answers_joined b done (event_at ev i ∷ []), flat_append answer_bytes (answers b done) (last ∷ []), ← q))
 

@@ -14,7 +14,7 @@ use Rattle.rules.specs.declared.Entry.TheVariants.{Invalid, Ignore, Move, Forget
 use Rattle.rules.specs.Numbers.{sent, coordinator, close, compensate}
 use Rattle.rules.specs.Rules.{moves, entry_of, answer_of, legal, has_state}
 use Rattle.rules.specs.Outcome.{needed_by, suits, asked_by}
-use Rattle.rules.specs.Laws.{legal_good, Turns, none, kept, asked as turns-asked}
+use Rattle.rules.specs.Laws.{legal_good, Turns, none, kept, asked as turns_asked}
 use Rattle.rules.proofs.Sound.{next_has, next_turns}
 use Rattle.book.specs.declared.Activity.{Activity}
 use Rattle.book.specs.declared.Seat.{Seat}
@@ -157,7 +157,7 @@ mine y x way m r calm old = at (eqb y.kind atomic && eqb x.role coordinator) ref
       by s was f c (none z) = inl (s ∙ z)
       by s was f c (kept z) =
           ⊎_elim (λ o. inl (s ∙ z ∙ eqb-true _ _ o)) (λ o. inr (inl (s ∙ z ∙ eqb-true _ _ o))) (either _ _ was)
-      by s was f c (turns-asked v z) = inr (inr (s ∙ z ∙ sym (f ∙ asked_sent x.role way m c v)))
+      by s was f c (turns_asked v z) = inr (inr (s ∙ z ∙ sym (f ∙ asked_sent x.role way m c v)))
 
 -- and so does every other seat of the activity
 theirs : (y : Activity) (w role state : ℕ) → clashes y.direction w ≡ false → agrees y.kind y.direction role state ≡ true

@@ -1,4 +1,4 @@
--- A walk that is left at the first record that fails: what was passed is good, and the end tells whether all were.
+-- A walk that is left at the first record that fails: the end tells whether all were good (the invariant stands beside).
 -- Assumes nothing.
 use Rattle.std.proofs.Common.{rules, arith, sym, ◌∙◌}
 use Rattle.lemmas.specs.Walks.{every_none, every_more, walk_end, walk_left}

@@ -1,7 +1,6 @@
--- A walk that is left at the first record that fails: what was passed is good and has its marks (`marked_more`), and the end tells whether
--- all were.
+-- A walk that is left at the first activity that fails: one more that passes has its marks (`marked_more`), and the end tells whether all were
+-- good (the invariant stands beside).
 -- Assumes nothing.
--- there are at most as many activities as places
 use Rattle.std.proofs.Common.{sym, ◌∙◌, ap, subst, ℕ, ◌<◌, arith, eqb-true}
 use Rattle.lemmas.specs.Walks.{every_none, every_more, walk_end, walk_left}
 use Rattle.book.specs.declared.Activity.{Activity}

@@ -1,7 +1,5 @@
--- A walk that is left at the first record that fails: what was passed is good and has its marks (`marked_more`), and the end tells whether
--- all were.
+-- The walk has passed good activities alone, and each has its marks.
 -- Assumes nothing.
--- there are at most as many activities as places
 use Rattle.std.proofs.Common.{◌≡◌, true, ◌-◌, ◌≤◌}
 use Rattle.lemmas.specs.Walks.{every}
 use Rattle.book.specs.Book.{activity_good_at}

@@ -23,8 +23,8 @@ module _ (kind d : ℕ) where
       ⊎_elim (λ (l : kind < 1). simp (lt-leb 1 kind l)) (λ (l : 1 ≤ kind). simp (lt-leb (2 * kind + d) 4 (omega (arith, l, n, m)), and-false))
       (below_or kind 1)
 
-  sum-good : (leb 1 kind && leb (2 * kind + d) 4) ≡ cond (eqb kind 1) (leb d 2) (eqb kind 2 && eqb d 0)
-  sum-good =
+  sum_good : (leb 1 kind && leb (2 * kind + d) 4) ≡ cond (eqb kind 1) (leb d 2) (eqb kind 2 && eqb d 0)
+  sum_good =
       ⊎_elim (λ (e : kind ≡ 1). simp (eq-eqb kind 1 e, le-leb 1 kind (omega arith)) (one e))
       (λ n. ⊎_elim (λ (e : kind ≡ 2). simp (ne_eqb kind 1 n, eq-eqb kind 2 e, le-leb 1 kind (omega arith)) (two e))
       (λ m. simp (ne_eqb kind 1 n, ne_eqb kind 2 m) (other n m))
@@ -33,4 +33,4 @@ module _ (kind d : ℕ) where
 
 pub returns : goal.returns
 unfolding activity_good
-returns c = sum-good c.args.kind c.args.direction
+returns c = sum_good c.args.kind c.args.direction

@@ -16,8 +16,8 @@ module _ (b : List ℕ) (n : ℕ) {x : Seat} (is_x : x ≡ seat_of b n) where
 
   somewhere : {y : Activity} {k : ℕ} {t : Bool} → x.activity < activity_count b → y ≡ activity_of b x.activity → k ≡ seat_marks y.kind y.direction
       → t ≡ marked_in k x.role x.table x.state → t ≡ fits_at b n
-  somewhere l is_y is-k is-t =
-      is-t ∙ ap (λ (m : ℕ). marked_in m x.role x.table x.state) (is-k ∙ ap (λ (z : Activity). seat_marks z.kind z.direction) is_y)
+  somewhere l is_y is_k is_t =
+      is_t ∙ ap (λ (m : ℕ). marked_in m x.role x.table x.state) (is_k ∙ ap (λ (z : Activity). seat_marks z.kind z.direction) is_y)
       ∙ ap (λ (z : Seat). marked_in (seat_marks (activity_of b z.activity).kind (activity_of b z.activity).direction) z.role z.table z.state) is_x
       ∙ fits_marked b n (omega (arith, l, ap (λ (z : Seat). z.activity) is_x))
 

@@ -1,4 +1,4 @@
--- A walk that is left at the first record that fails: what was passed is good, and the end tells whether all were.
+-- The walk has passed good records alone.
 -- Assumes nothing.
 use Rattle.std.proofs.Common.{◌-◌, ◌≤◌, true, ◌≡◌}
 use Rattle.lemmas.specs.Walks.{every}

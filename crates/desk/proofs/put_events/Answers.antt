@@ -1,4 +1,4 @@
--- After i turns the lines of the first i events stand from `from` on, each in at most 48 bytes.
+-- One more event's line follows those before it (`next_line`); the invariant stands beside.
 -- Assumes nothing.
 use Rattle.std.proofs.Common.{◌+◌, ◌*◌, ◌/◌, arith, ◌≡◌, refl, ◌∙◌, ap, ◌++◌, length}
 use Rattle.records.specs.declared.Event.{Event}

@@ -1,4 +1,4 @@
--- After n turns the lines of the first n seats stand from `from` on, each in at most 17 bytes.
+-- One more seat's line follows those before it (`joined`); the invariant stands beside.
 -- Assumes nothing.
 use Rattle.std.proofs.Common.{arith, add-one, ◌≡◌, refl, sym, ◌∙◌, ap}
 use Rattle.book.specs.Layout.{seat_count}

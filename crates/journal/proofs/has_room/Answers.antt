@@ -1,4 +1,4 @@
--- `journal::has_room_lem` meets its contract: both tests hold, or one of them fails.
+-- `journal::has_room` meets its contract: both tests hold, or one of them fails.
 -- Assumes nothing.
 use Rattle.std.proofs.Common.{arith, sym}
 use Rattle.journal.specs.Laws.{room_left, area_full, run_full}

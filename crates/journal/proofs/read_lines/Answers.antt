@@ -1,7 +1,6 @@
--- `journal::read_lines` meets its contract. The invariant: what is kept is right for the lines read so far (`Kept`), and there was room.
--- The measure is what is left of the text.
+-- `journal::read_lines` meets its contract: a line more that is good is kept (`kept_good`), one that is refused ends the reading
+-- (`kept_refused`), and at the end all lines are kept (`kept_all`).
 -- Assumes nothing.
--- what the calls say of the line at hand
 use Rattle.std.proofs.Common.{ℕ, ◌≡◌, ◌-◌, ◌+◌, Bool, List, length, take, drop, refl, sym, ◌∙◌, ap, arith}
 use Rattle.line.specs.Grammar.{newline, line_most, index_of, line_of}
 use Rattle.line.specs.Places.{tail}

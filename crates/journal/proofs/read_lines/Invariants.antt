@@ -1,7 +1,6 @@
--- `journal::read_lines` meets its contract. The invariant: what is kept is right for the lines read so far (`Kept`), and there was room.
--- The measure is what is left of the text.
+-- The invariant of `journal::read_lines`: what is kept is right for the lines read so far (`Kept`), and there was room. The measure is what is
+-- left of the text.
 -- Assumes nothing.
--- what the calls say of the line at hand
 use Rattle.std.proofs.Common.{◌≤◌, ◌-◌, ◌*◌, min, ◌≡◌, length}
 use Rattle.journal.proofs.Keeping.{Kept}
 use Rattle.journal.proofs.read_lines.Given as goal

@@ -16,8 +16,8 @@ keys =
     ∷ (16 ∷ []) ∷ (17 ∷ []) ∷ (18 ∷ []) ∷ (19 ∷ [])
     ∷ (20 ∷ []) ∷ (21 ∷ []) ∷ (22 ∷ []) ∷ (23 ∷ []) ∷ (24 ∷ []) ∷ (25 ∷ []) ∷ (26 ∷ []) ∷ (27 ∷ []) ∷ (28 ∷ []) ∷ (29 ∷ []) ∷ (30 ∷ []) ∷ (31 ∷ []) ∷ []
 
-no-marks : T (each (λ i. any_key keys i || eqb (get_or legal_rows i 0) 0) 0 32)
-no-marks = tt
+no_marks : T (each (λ i. any_key keys i || eqb (get_or legal_rows i 0) 0) 0 32)
+no_marks = tt
 
 rest : (row : ℕ) → Others (Unit {0}) keys row → 0 ≡ get_or legal_rows row 0
 rest row o =
@@ -25,7 +25,7 @@ rest row o =
     (λ (l : row < 32).
     ⊎_elim (λ k. absurd (none (Unit {0}) keys row o k)) (λ e. sym (eqb→eq (get_or legal_rows row 0) 0 e))
     (or_yes (any_key keys row) (eqb (get_or legal_rows row 0) 0)
-    (each_at (λ i. any_key keys i || eqb (get_or legal_rows i 0) 0) 32 0 no-marks row (omega arith) (omega arith))))
+    (each_at (λ i. any_key keys i || eqb (get_or legal_rows i 0) 0) 32 0 no_marks row (omega arith) (omega arith))))
     (λ (l : 32 ≤ row). sym (get_or-eq_default legal_rows 0 l))
     (below_or row 32)
 

@@ -12,31 +12,31 @@ next x y = at (eqb x y) refl where
   at true e = let z : x ≡ y = eqb-true x y e in eq-eqb (x + 1) (y + 1) (omega arith)
   at false e = ne_eqb (x + 1) (y + 1) (λ h. eqb-false x y e (omega arith))
 
-split-is : (place : ℕ) → eqb (table_at place) 2 ≡ eqb (place / 16 % 2) 1
-split-is place = next (place / 16 % 2) 1
+split_is : (place : ℕ) → eqb (table_at place) 2 ≡ eqb (place / 16 % 2) 1
+split_is place = next (place / 16 % 2) 1
 
-coordinator-is : (place : ℕ) → eqb (role_at place) 1 ≡ eqb (place / 32 % 2) 0
-coordinator-is place = next (place / 32 % 2) 0
+coordinator_is : (place : ℕ) → eqb (role_at place) 1 ≡ eqb (place / 32 % 2) 0
+coordinator_is place = next (place / 32 % 2) 0
 
 pub returns-then-place-eq0 : goal.returns-then-place-eq0
 unfolding entry_at line_of
 returns-then-place-eq0 c =
-    simp (c.coordinator_receives.ensures, c.in-0.is, coordinator-is c.args.place ∙ eq-eqb _ _ c.if-place-eq0.true, split-is c.args.place)
+    simp (c.coordinator_receives.ensures, c.in-0.is, coordinator_is c.args.place ∙ eq-eqb _ _ c.if-place-eq0.true, split_is c.args.place)
 
 pub returns-else-place-eq0 : goal.returns-else-place-eq0
 unfolding entry_at line_of
 returns-else-place-eq0 c =
-    simp (c.participant_receives.ensures, c.in-0.is, coordinator-is c.args.place ∙ ne_eqb _ _ c.if-place-eq0.false, split-is c.args.place)
+    simp (c.participant_receives.ensures, c.in-0.is, coordinator_is c.args.place ∙ ne_eqb _ _ c.if-place-eq0.false, split_is c.args.place)
 
 pub returns-then-place-eq0-2 : goal.returns-then-place-eq0-2
 unfolding entry_at line_of
 returns-then-place-eq0-2 c =
-    simp (c.coordinator_sends.ensures, c.in-1.is, coordinator-is c.args.place ∙ eq-eqb _ _ c.if-place-eq0-2.true, split-is c.args.place)
+    simp (c.coordinator_sends.ensures, c.in-1.is, coordinator_is c.args.place ∙ eq-eqb _ _ c.if-place-eq0-2.true, split_is c.args.place)
 
 pub returns-else-place-eq0-2 : goal.returns-else-place-eq0-2
 unfolding entry_at line_of
 returns-else-place-eq0-2 c =
-    simp (c.participant_sends.ensures, c.in-1.is, coordinator-is c.args.place ∙ ne_eqb _ _ c.if-place-eq0-2.false, split-is c.args.place)
+    simp (c.participant_sends.ensures, c.in-1.is, coordinator_is c.args.place ∙ ne_eqb _ _ c.if-place-eq0-2.false, split_is c.args.place)
 
 pub returns-in_default : goal.returns-in_default
 unfolding entry_at line_of

@@ -12,8 +12,8 @@ module _ (b : List ℕ) (n k state direction : ℕ) where
 
   kept : Shaped b → k ≡ (seat_of b n).activity → k < activity_count b → direction ≡ 0 → {b' : List ℕ} → b' ≡ put_state b n state → b' ≡ after
   unfolding turned
-  kept sh is-k kl z is_b =
-      is_b ∙ sym (moved_kept b n state sh (omega (arith, is-k, kl))) ∙ ap (λ (j : ℕ). moved b n state (activity_of b j).direction) (sym is-k)
+  kept sh is_k kl z is_b =
+      is_b ∙ sym (moved_kept b n state sh (omega (arith, is_k, kl))) ∙ ap (λ (j : ℕ). moved b n state (activity_of b j).direction) (sym is_k)
       ∙ sym (simp (eq-eqb direction 0 z))
 
   given : (direction ≡ 0 → ⊥) → {b' : List ℕ} → b' ≡ moved b n state direction → b' ≡ after

@@ -1,4 +1,4 @@
--- After i turns the book and the area are those after the first i events; the book is good all along (`run_good`).
+-- One turn is one event more (`turn_book`, `turn_area`), and the book is good all along (`run_good`). The invariant stands beside.
 -- Assumes nothing.
 use Rattle.std.proofs.Common.{arith, ◌≡◌, refl, ◌∙◌, ap}
 use Rattle.records.specs.Records.{first_events}

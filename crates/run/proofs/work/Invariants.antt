@@ -1,4 +1,4 @@
--- After i turns the book and the area are those after the first i events; the book is good all along (`run_good`).
+-- After i turns the book and the area are those after the first i events.
 -- Assumes nothing.
 use Rattle.std.proofs.Common.{◌≤◌, ◌-◌, ◌≡◌, length}
 use Rattle.records.specs.Records.{first_events}

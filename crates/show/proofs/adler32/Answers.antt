@@ -1,4 +1,4 @@
--- `show::adler32` meets its contract. The invariant: the whole part's sum is that of what is left, after the two sums so far.
+-- `show::adler32` meets its contract: the next byte is the first of what is left (the invariant stands beside).
 -- Assumes nothing.
 use Rattle.std.proofs.Common.{◌<◌, ◌≤◌, length, sym, ◌∙◌, refl, add-one, arith, drop-cons, drop_of_length-le}
 use Rattle.show.specs.Adler.{adler}

@@ -1,4 +1,4 @@
--- `show::adler32` meets its contract. The invariant: the whole part's sum is that of what is left, after the two sums so far.
+-- The invariant of `show::adler32`: the whole part's sum is that of what is left, after the two sums so far.
 -- Assumes nothing.
 use Rattle.std.proofs.Common.{length, drop, ◌-◌, ◌≤◌, ◌<◌, ◌≡◌}
 use Rattle.show.specs.Adler.{adler, adler_from}
