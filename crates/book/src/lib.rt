@@ -147,6 +147,7 @@ fn activity_good(kind: u8, direction: u8) -> bool
 }
 
 // The header's four numbers and the length.
+#[tactic(auto, unfolding(crate::specs::Book::numbers_good))]
 fn numbers_good(a: usize, s: usize, acts: usize, seats: usize, len: usize) -> bool
     ensures { result ≡ numbers_good a s acts seats len }
 {

@@ -149,6 +149,7 @@ fn work(book: &mut [u8], events: &[u8], area: &mut [u8], count: usize)
 }
 
 // Works an event list: the book is moved, and each event's answer stands in the area. Returns the refusal, or 0.
+#[tactic(auto, unfolding(crate::specs::Run::run_refusal, crate::specs::Run::run_book, crate::specs::Run::run_answers))]
 pub fn run(book: &mut [u8], events: &[u8], area: &mut [u8]) -> u8
     ensures result { result ≡ run_refusal book.old events.now area.old }
     ensures book { book.new ≡ run_book book.old events.now area.old }

@@ -1,6 +1,6 @@
 -- Each way out is one case of `judged`.
 -- Assumes nothing.
-use Rattle.std.proofs.Common.{arith, refl, sym, ◌∙◌, length-take-le}
+use Rattle.std.proofs.Common.{◌≡◌, arith, refl, sym, ◌∙◌, length-take-le}
 use Rattle.desk.specs.Desk.{bad_book}
 use Rattle.desk.specs.Ends.{too_short, cut_off, book_refused, book_good, reported}
 use Rattle.desk.proofs.report.Goals as goal
@@ -36,14 +36,17 @@ returns-then-bad-ne-GOOD c =
     record { count = ends.0; within = ends.1.0; text = ends.1.1.0; input = ends.1.1.1 }
 
 pub put_journal-requires : goal.put_journal-requires
-put_journal-requires c = record { size_in_bounds = (c.if-input-size.false, sym c.check-bad.ensures ∙ c.if-bad-ne-GOOD.false); report_most_in_bounds = omega arith }
+put_journal-requires c =
+    let good : c.check-bad.result ≡ 0 = omega arith in
+    record { size_in_bounds = (c.if-input-size.false, sym c.check-bad.ensures ∙ good); report_most_in_bounds = omega arith }
 
 pub returns : goal.returns
 returns c =
     let i = c.args.input.now in
     let p = c.put_journal.ensures in
+    let good : c.check-bad.result ≡ 0 = omega arith in
     let ends =
     reported i _ c.args.out.now _ _ _
-    (book_good i c.if-input-lt-HEAD_SIZE.false c.size-size.result c.size-size.ensures c.if-input-size.false (sym c.check-bad.ensures ∙ c.if-bad-ne-GOOD.false)) p.text p.input
+    (book_good i c.if-input-lt-HEAD_SIZE.false c.size-size.result c.size-size.ensures c.if-input-size.false (sym c.check-bad.ensures ∙ good)) p.text p.input
     in
     record { count = ends.0; within = ends.1.0; text = ends.1.1.0; input = ends.1.1.1 }
