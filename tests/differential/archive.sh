@@ -11,7 +11,7 @@ else
     LOTEND_ARCHIVE_DIR=$(cd "$LOTEND_ARCHIVE_DIR" && pwd)
 fi
 
-# The benchmark's C engine for x86-64. No -march=native: both sides get plain x86-64.
+# The benchmark's C engine for x86-64. No -march=native: it gets plain x86-64.
 build_plain_engine() {
     export PLAIN_ARCHIVE_DIR="$root/target/plain"
     mkdir -p "$PLAIN_ARCHIVE_DIR"
