@@ -27,6 +27,7 @@ fn digit(n: usize) -> u8
 }
 
 // A number of at most five digits, in decimal.
+#[tactic(auto, using(crate::specs::Laws::decimal_one))]
 pub fn put_number(area: &mut [u8], at: usize, n: usize) -> usize
     requires { (n < number_most) × (at + digits_most ≤ length area.old) }
     ensures text { Put area.old at (decimal n) area.new result }
