@@ -39,6 +39,7 @@ def make_all():
         made[FOLDER / name / "stdin"] = vectors.stdin
         made[FOLDER / name / "stdout"] = vectors.stdout
     made[FOLDER / "tables_page" / "stdout"] = tables_page.expected()
+    made[Path("docs", "TABLES.md")] = tables_page.expected()
     made[FOLDER / "lotend" / "stdin"] = desk_cases.EXAMPLE
     made[FOLDER / "lotend" / "stdout"] = engine.report(desk_cases.EXAMPLE)
     return made
