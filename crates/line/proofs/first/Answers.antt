@@ -1,7 +1,6 @@
 -- `line::first` meets its contract: what can't begin a seat is left at once, and of the rest the digits decide.
 -- Assumes nothing.
 use Rattle.std.proofs.Common.{◌≡◌, ◌⊎◌, get_or, sym, ◌∙◌, arith}
-use Rattle.std.proofs.lemmas.Grind.{common_steps}
 use Rattle.line.specs.Grammar.{space}
 use Rattle.line.proofs.Decimal.{too_short, no_byte, zero_leads, begun}
 use Rattle.line.proofs.first.Goals as goal
@@ -18,5 +17,5 @@ returns-then-body-ne-SPACE c = sym (zero_leads c.args.body.now (omega arith) (om
 pub returns : goal.returns
 returns c =
     let b = c.args.body.now in
-    let begins : (get_or b 0 0 ≡ 48 → ⊥) ⊎ (get_or b 1 0 ≡ space) = grind (arith, common_steps) in
+    let begins : (get_or b 0 0 ≡ 48 → ⊥) ⊎ (get_or b 1 0 ≡ space) = grind arith in
     c.digits.ensures ∙ sym (begun b (omega arith) c.if-body-eq-SPACE.false begins)
