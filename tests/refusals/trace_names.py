@@ -8,7 +8,7 @@ from pathlib import Path
 ROOT = Path(__file__).resolve().parents[2]
 QUOTED = re.compile(r"`([^`]+)`")
 SPECIFIED = re.compile(r"(?P<crate>\w+)/(?P<file>\w+\.antt): (?P<names>.+)")
-CODED = re.compile(r"(?P<crate>\w+)::(?P<name>\w+)")
+CODED = re.compile(r"(?P<crate>\w+)::(?:\w+::)*(?P<name>\w+)")
 EDITED = re.compile(r"(?P<crate>\w+)/(?P<label>\w+)\.edit")
 TRIED = re.compile(r"edits/(?P<path>\w+/\w+\.edit)")
 MADE = re.compile(r"(?P<file>\w+\.py): (?P<names>.+)")

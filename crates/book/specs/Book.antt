@@ -1,10 +1,12 @@
 -- Which books are good: refusals 1 to 5 of the outline, each over the whole book before the next.
 -- Assumes nothing.
-use Rattle.std.specs.Prelude.{Bool, true, cond, not, ◌&&◌, ℕ, ◌+◌, ◌*◌, List, length, leb, ltb, eqb}
+use Rattle.std.specs.Prelude.{Bool, Option, None, Some, Result, Ok, Err, true, cond, not, ◌&&◌, ℕ, ◌+◌, ◌*◌, List, length, leb, ltb, eqb}
 use Rattle.lemmas.specs.Walks.{every}
 use Rattle.rules.specs.Numbers.{coordinator}
 use Rattle.rules.specs.Rules.{has_state}
 use Rattle.rules.specs.Outcome.{suits}
+use Rattle.book.specs.declared.Refusal.{Refusal}
+use Rattle.book.specs.declared.Refusal.TheVariants.{Short, Layout, Activity, Seat as Bad_seat, SeatDirection}
 use Rattle.book.specs.declared.Seat.{Seat}
 use Rattle.book.specs.Layout.{activity_count, seat_count, activities_from, seats_from, head_size, activity_size, seat_size, most_activities, most_seats, activity_of, seat_of}
 
@@ -59,6 +61,9 @@ directions_good b = every (agrees_at b) (seat_count b)
 abbrev pub seats_refusal : List ℕ → ℕ
 seats_refusal b = cond (not (seats_good b)) 4 (cond (not (directions_good b)) 5 0)
 
+abbrev pub activities_refusal : List ℕ → ℕ
+activities_refusal b = cond (not (activities_good b)) 3 0
+
 abbrev pub records_refusal : List ℕ → ℕ
 records_refusal b = cond (not (activities_good b)) 3 (seats_refusal b)
 
@@ -71,3 +76,22 @@ fits_at b n = seat_good_at b n && agrees_at b n
 
 unfoldable pub seats_fit : List ℕ → Bool
 seats_fit b = every (fits_at b) (seat_count b)
+
+-- the number that says a refusal, and 0 where there is none
+abbrev pub number : Refusal → ℕ
+number Short = 1
+number Layout = 2
+number Activity = 3
+number Bad_seat = 4
+number SeatDirection = 5
+
+abbrev pub number_of : Result (Unit {0}) Refusal → ℕ
+number_of (Ok _) = 0
+number_of (Err r) = number r
+
+-- the bytes that have a header; those that are a book, and why others are not
+abbrev pub headed : List ℕ → Option (List ℕ)
+headed b = cond (ltb (length b) head_size) None (Some b)
+
+abbrev pub opened : List ℕ → Result (List ℕ) Refusal
+opened b = cond (ltb (length b) head_size) (Err Short) (cond (not (head_good b)) (Err Layout) (Ok b))

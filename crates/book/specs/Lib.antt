@@ -4,3 +4,4 @@ pub mod Marks
 pub mod Lens
 pub mod Good
 pub mod Same
+pub mod Single

@@ -1,7 +1,7 @@
 -- Rules 4 and 5 as marks: the states that a seat of each activity may have.
 -- The argument: what an atomic activity's marks leave out is a coordinator's state that needs another direction.
 -- Assumes nothing.
-use Rattle.std.specs.Prelude.{◌≡◌, refl, Bool, true, false, cond, not, ◌&&◌, ◌||◌, List, ℕ, ◌+◌, ◌*◌, ◌%◌, ◌≤◌, ◌<◌, leb, eqb, length, get_or, set, replicate}
+use Rattle.std.specs.Prelude.{◌≡◌, refl, Bool, true, false, cond, not, ◌&&◌, ◌||◌, List, Option, MatchOption, ℕ, ◌+◌, ◌*◌, ◌%◌, ◌≤◌, ◌<◌, leb, ltb, eqb, length, get_or, set, replicate}
 use Rattle.std.proofs.Math.Path.{sym}
 use Rattle.std.proofs.Common.{ap, ◌∙◌, ⊎_elim, arith, eqb→eq, length-set, get_or-set_same, get_or-set_other, lt-ltb, le-ltb, leb-true, eqb-true}
 use Rattle.std.proofs.lemmas.List.{length-replicate, get_or-replicate}
@@ -71,6 +71,18 @@ module _ (b : List ℕ) (n : ℕ) where
   unfolding seat_good
   fits_nowhere l = simp (le-ltb _ _ l)
 
+-- an activity's marks, and none where there is no such activity
+abbrev pub marks_at : List ℕ → ℕ → ℕ
+marks_at b k = cond (ltb k (activity_count b)) (seat_marks_at b k) 0
+
+abbrev pub TellsMarks : List ℕ → ℕ → Option ℕ → Type 0
+TellsMarks b k o = MatchOption o (activity_count b ≤ k) (λ marks. marks ≡ marks_at b k)
+
+-- a rule that may be asked for each activity that a seat can name, and tells its marks
+pub record Tells (b : List ℕ) (may : ℕ → Type 0) (says : ℕ → Option ℕ → Type 0) : Type 0 where
+  pub asked : (k : ℕ) → k < 256 → may k
+  pub told : (k : ℕ) (o : Option ℕ) → k < 256 → says k o → TellsMarks b k o
+
 -- the first i activities' marks stand at their numbers, and no others
 pub record Marked (b : List ℕ) (i : ℕ) (marks : List ℕ) : Type 0 where
   pub size : length marks ≡ 256
@@ -93,12 +105,21 @@ marked_more b i v marks l e m = record {
   none = λ k h. get_or-set_other marks i k v 0 (λ q. omega (arith, h, q)) ∙ m.none k (omega (arith, h));
 }
 
--- a seat looked up in the marks of all
+pub marked_at : (b marks : List ℕ) → Marked b (activity_count b) marks → (k : ℕ) → get_or marks k 0 ≡ marks_at b k
+marked_at b marks m k =
+    ⊎_elim (λ (l : k < activity_count b). m.done k l ∙ sym (simp (lt-ltb _ _ l))) (λ (l : activity_count b ≤ k). m.none k l ∙ sym (simp (le-ltb _ _ l)))
+    (below_or k (activity_count b))
+
+-- a seat looked up in its activity's marks, and in the marks of all
+pub marks_fit : (b : List ℕ) (n : ℕ)
+    → marked_in (marks_at b (seat_of b n).activity) (seat_of b n).role (seat_of b n).table (seat_of b n).state ≡ fits_at b n
+marks_fit b n =
+    ⊎_elim
+    (λ (l : (seat_of b n).activity < activity_count b). simp (lt-ltb _ _ l) (fits_marked b n l))
+    (λ (l : activity_count b ≤ (seat_of b n).activity). simp (le-ltb _ _ l) (none_marked _ _ _ ∙ fits_nowhere b n l))
+    (below_or (seat_of b n).activity (activity_count b))
+
 pub looked_up : (b : List ℕ) (marks : List ℕ) (n : ℕ) → Marked b (activity_count b) marks
     → marked_in (get_or marks (seat_of b n).activity 0) (seat_of b n).role (seat_of b n).table (seat_of b n).state ≡ fits_at b n
 looked_up b marks n m =
-    ⊎_elim
-    (λ (l : (seat_of b n).activity < activity_count b). ap (λ (k : ℕ). marked_in k (seat_of b n).role (seat_of b n).table (seat_of b n).state) (m.done _ l) ∙ fits_marked b n l)
-    (λ (l : activity_count b ≤ (seat_of b n).activity). ap (λ (k : ℕ). marked_in k (seat_of b n).role (seat_of b n).table (seat_of b n).state) (m.none _ l)
-    ∙ none_marked _ _ _ ∙ fits_nowhere b n l)
-    (below_or (seat_of b n).activity (activity_count b))
+    ap (λ (k : ℕ). marked_in k (seat_of b n).role (seat_of b n).table (seat_of b n).state) (marked_at b marks m (seat_of b n).activity) ∙ marks_fit b n

@@ -1,17 +1,20 @@
 #![tactic(auto)]
 // The book: where its records stand, and whether it is good. No other crate knows its bytes.
-ghost use Rattle.std.specs.Prelude.{◌≡◌, true, false, ◌+◌, ◌*◌, ◌≤◌, ◌<◌, length};
-ghost use Rattle.book.specs.Layout.{head_size, activity_count, seat_count, size_of, activity_of, seat_of, put_state, put_direction, moved, Shaped};
-ghost use Rattle.book.specs.Marks.{seat_marks, Marked};
-ghost use Rattle.book.specs.Book.{activity_good, seat_good, activity_good_at, seat_good_at, fits_at, numbers_good, head_good, activities_good, seats_good, seats_fit, seats_refusal, records_refusal, book_refusal};
+ghost use Rattle.std.specs.Prelude.{◌≡◌, Bool, ℕ, true, false, ◌+◌, ◌*◌, ◌≤◌, ◌<◌, length, IfOk};
+ghost use Rattle.lemmas.specs.Walks.{every};
+ghost use Rattle.book.specs.Layout.{head_size, most_activities, most_seats, activity_count, seat_count, size_of, activity_of, seat_of, put_state, put_direction, moved, Shaped};
+ghost use Rattle.book.specs.Marks.{seat_marks, Marked, TellsMarks, Tells};
+ghost use Rattle.book.specs.Book.{activity_good, seat_good, activity_good_at, seat_good_at, fits_at, head_good, activities_good, seats_good, seats_fit, activities_refusal, seats_refusal, records_refusal, book_refusal, number, number_of, headed, opened};
 
-#[derive(Clone, Copy)]
+use std::marker::Model;
+
+#[derive(Clone, Copy, Debug, PartialEq, Eq)]
 pub struct Activity {
     pub kind: u8,
     pub direction: u8,
 }
 
-#[derive(Clone, Copy)]
+#[derive(Clone, Copy, Debug, PartialEq, Eq)]
 pub struct Seat {
     pub activity: usize,
     pub role: u8,
@@ -19,6 +22,53 @@ pub struct Seat {
     pub state: u8,
 }
 
+// Why a book is refused, by the number that says it.
+#[derive(Clone, Copy, Debug, PartialEq, Eq)]
+pub enum Refusal {
+    Short = 1,
+    Layout = 2,
+    Activity = 3,
+    Seat = 4,
+    SeatDirection = 5,
+}
+
+// Bytes that begin with a header.
+#[derive(Drop)]
+pub struct Head<'a> {
+    bytes: &'a [u8],
+}
+
+impl<'a> Model for Head<'a> {
+    ghost use Rattle.std.specs.Prelude.{List, ℕ, ◌≤◌, length};
+
+    ghost Value = { List ℕ };
+
+    ghost use Rattle.book.specs.Layout.{head_size};
+
+    ghost view = { λ head. head.bytes.now };
+
+    ghost invariant = { λ head. head_size ≤ length head.bytes.now };
+}
+
+// Bytes whose header says where the records are and how long the book is.
+#[derive(Drop)]
+pub struct Book<'a> {
+    bytes: &'a [u8],
+}
+
+impl<'a> Model for Book<'a> {
+    ghost use Rattle.std.specs.Prelude.{List, ℕ};
+
+    ghost Value = { List ℕ };
+
+    ghost use Rattle.book.specs.Layout.{Shaped};
+
+    ghost view = { λ book. book.bytes.now };
+
+    ghost invariant = { λ book. Shaped book.bytes.now };
+}
+
+// The kinds are numbers, as a kind may be any byte and a book's activities are read before it is known to be good.
 pub const ATOMIC: u8 = 1;
 
 pub const MIXED: u8 = 2;
@@ -36,79 +86,306 @@ pub const SEATS_MOST: usize = 4096;
 // From so many seats on a table of marks pays.
 const MANY_SEATS: usize = 64;
 
-pub const REFUSED_BOOK_SHORT: u8 = 1;
+impl<'a> Head<'a> {
+    // The header, if there are enough bytes for one.
+    pub fn of(bytes: &'a [u8]) -> Option<Head<'a>>
+        ensures { result ≡ headed bytes.now }
+    {
+        if bytes.len() < HEAD_SIZE {
+            return None;
+        }
+        Some(Head { bytes })
+    }
 
-pub const REFUSED_LAYOUT: u8 = 2;
+    // How many activities, and how many seats, the header says.
+    pub fn activity_count(&self) -> usize
+        ensures value { result ≡ activity_count self.now }
+        ensures most { result < 65536 }
+    {
+        records::u16_at(self.bytes, 0)
+    }
 
-pub const REFUSED_ACTIVITY: u8 = 3;
+    pub fn seat_count(&self) -> usize
+        ensures value { result ≡ seat_count self.now }
+        ensures most { result < 65536 }
+    {
+        records::u16_at(self.bytes, 2)
+    }
 
-pub const REFUSED_SEAT: u8 = 4;
+    // The length of the book that the header begins.
+    pub fn size(&self) -> usize
+        ensures { result ≡ size_of self.now }
+    {
+        HEAD_SIZE + ACTIVITY_SIZE * self.activity_count() + SEAT_SIZE * self.seat_count()
+    }
 
-pub const REFUSED_SEAT_DIRECTION: u8 = 5;
-
-fn wide(x: u8) -> usize
-    ensures value { result ≡ x }
-    ensures most { result < 256 }
-{
-    x as usize
-}
-
-// How many activities, and how many seats, the header says.
-pub fn activity_count(book: &[u8]) -> usize
-    requires { head_size ≤ length book.now }
-    ensures value { result ≡ activity_count book.now }
-    ensures most { result < 65536 }
-{
-    records::u16_at(book, 0)
-}
-
-pub fn seat_count(book: &[u8]) -> usize
-    requires { head_size ≤ length book.now }
-    ensures value { result ≡ seat_count book.now }
-    ensures most { result < 65536 }
-{
-    records::u16_at(book, 2)
-}
-
-// The length of the book that a header begins.
-pub fn size(book: &[u8]) -> usize
-    requires { head_size ≤ length book.now }
-    ensures { result ≡ size_of book.now }
-{
-    HEAD_SIZE + ACTIVITY_SIZE * activity_count(book) + SEAT_SIZE * seat_count(book)
-}
-
-// Activity `k`.
-pub fn read_activity(book: &[u8], k: usize) -> Activity
-    requires shaped { Shaped book.now }
-    requires k_bound { k < activity_count book.now }
-    ensures { result ≡ activity_of book.now k }
-{
-    let at = HEAD_SIZE + ACTIVITY_SIZE * k;
-    Activity {
-        kind: book[at],
-        direction: book[at + 1],
+    // Whether the four numbers and the length are as they must be.
+    #[tactic(auto, unfolding(crate::specs::Book::head_good, crate::specs::Book::numbers_good))]
+    fn is_good(&self) -> bool
+        ensures { result ≡ head_good self.now }
+    {
+        let bytes = self.bytes;
+        if ACTIVITIES_MOST < self.activity_count() {
+            return false;
+        }
+        if SEATS_MOST < self.seat_count() {
+            return false;
+        }
+        if records::u16_at(bytes, 4) != HEAD_SIZE {
+            return false;
+        }
+        if records::u16_at(bytes, 6) != HEAD_SIZE + ACTIVITY_SIZE * self.activity_count() {
+            return false;
+        }
+        bytes.len() == self.size()
     }
 }
 
-// Seat `n`.
-pub fn read_seat(book: &[u8], n: usize) -> Seat
-    requires shaped { Shaped book.now }
-    requires n_bound { n < seat_count book.now }
-    ensures value { result ≡ seat_of book.now n }
-    ensures most { result.activity < 256 }
-{
-    let from = records::u16_at(book, 6);
-    let at = from + SEAT_SIZE * n;
-    Seat {
-        activity: wide(book[at]),
-        role: book[at + 1],
-        table: book[at + 2],
-        state: book[at + 3],
+impl Activity {
+    // An atomic activity has directions up to 2 and a mixed one none: two fewer for one kind more. So it is a sum and no jump, as no
+    // processor foresees an activity's kind.
+    fn is_good(self) -> bool
+        ensures { result ≡ activity_good self.kind self.direction }
+    {
+        (ATOMIC <= self.kind) & (2 * self.kind as usize + self.direction as usize <= 4)
     }
+
+    // The states that a seat of a good activity may have, by rules 4 and 5 together. An atomic activity without a direction, the two with
+    // one and a mixed activity are 0, 1, 2 and 3: no processor foresees which of them it is, and four numbers are looked up without a jump.
+    fn seat_marks(self) -> u64
+        requires { activity_good self.kind self.direction ≡ true }
+        ensures { result ≡ seat_marks self.kind self.direction }
+    {
+        let which = (3 * self.kind as usize + self.direction as usize + 1) % 4;
+        match which {
+            0 => rules::suiting(rules::DIRECTION_NONE),
+            1 => rules::suiting(rules::Direction::Close as u8),
+            2 => rules::suiting(rules::Direction::Compensate as u8),
+            _ => rules::STATES,
+        }
+    }
+}
+
+impl Seat {
+    // Whether it is a seat that the rules allow in a book of so many activities.
+    fn is_good(self, activities: usize) -> bool
+        ensures { result ≡ seat_good activities self }
+    {
+        if activities <= self.activity {
+            return false;
+        }
+        rules::has_state(self.role, self.table, self.state)
+    }
+}
+
+// Whether a rule holds for each number below `count`. The walk is left at the first record that breaks it.
+fn holds_for_all<F: Fn(usize) -> bool>(count: usize, rule: F) -> bool
+    requires { (n : ℕ) → n < count → F.pre rule n }
+    ensures { (p : ℕ → Bool) → ((n : ℕ) (r : Bool) → n < count → F.post rule n r → r ≡ p n) → result ≡ every p count }
+{
+    let mut holds = true;
+    'walk: for n in 0..count {
+        if !rule(n) {
+            holds = false;
+            break 'walk;
+        }
+    }
+    holds
+}
+
+impl<'a> Book<'a> {
+    // A book, or the refusal of bytes that have no header or one whose numbers are not as they must be.
+    pub fn new(bytes: &'a [u8]) -> Result<Book<'a>, Refusal>
+        ensures { result ≡ opened bytes.now }
+    {
+        let head = Head::of(bytes).ok_or(Refusal::Short)?;
+        if !head.is_good() {
+            return Err(Refusal::Layout);
+        }
+        Ok(Book { bytes })
+    }
+
+    // The book of bytes that are known to be one.
+    pub fn of(bytes: &'a [u8]) -> Book<'a>
+        requires { Shaped bytes.now }
+        ensures { result ≡ bytes.now }
+    {
+        Book { bytes }
+    }
+
+    // How many activities, and how many seats, it has.
+    pub fn activity_count(&self) -> usize
+        ensures value { result ≡ activity_count self.now }
+        ensures most { result ≤ most_activities }
+    {
+        Head { bytes: self.bytes }.activity_count()
+    }
+
+    pub fn seat_count(&self) -> usize
+        ensures value { result ≡ seat_count self.now }
+        ensures most { result ≤ most_seats }
+    {
+        Head { bytes: self.bytes }.seat_count()
+    }
+
+    // Activity `k`.
+    #[tactic(auto, unfolding(crate::specs::Layout::activity_of))]
+    pub fn activity(&self, k: usize) -> Activity
+        requires { k < activity_count self.now }
+        ensures { result ≡ activity_of self.now k }
+    {
+        let bytes = self.bytes;
+        let at = HEAD_SIZE + ACTIVITY_SIZE * k;
+        Activity {
+            kind: bytes[at],
+            direction: bytes[at + 1],
+        }
+    }
+
+    // Seat `n`.
+    #[tactic(auto, unfolding(crate::specs::Layout::seat_of))]
+    pub fn seat(&self, n: usize) -> Seat
+        requires { n < seat_count self.now }
+        ensures value { result ≡ seat_of self.now n }
+        ensures most { result.activity < 256 }
+    {
+        let bytes = self.bytes;
+        let from = records::u16_at(bytes, 6);
+        let at = from + SEAT_SIZE * n;
+        Seat {
+            activity: bytes[at] as usize,
+            role: bytes[at + 1],
+            table: bytes[at + 2],
+            state: bytes[at + 3],
+        }
+    }
+
+    // The refusal of the records.
+    pub fn check(&self) -> Result<(), Refusal>
+        ensures { number_of result ≡ records_refusal self.now }
+    {
+        if self.seat_count() < MANY_SEATS {
+            self.check_few()
+        } else {
+            self.check_many()
+        }
+    }
+
+    fn check_few(&self) -> Result<(), Refusal>
+        ensures { number_of result ≡ records_refusal self.now }
+    {
+        if !self.activities_good() {
+            return Err(Refusal::Activity);
+        }
+        self.check_seats(|k| self.marks_of(k))
+    }
+
+    // Every activity's marks are made once, and each seat is looked up in them: worth their making in a book of many seats.
+    fn check_many(&self) -> Result<(), Refusal>
+        ensures { number_of result ≡ records_refusal self.now }
+    {
+        let mut marks = [0; ACTIVITIES_MOST];
+        self.fill_marks(&mut marks)?;
+        self.check_seats(|k| Some(marks[k]))
+    }
+
+    // Seats are walked once for rules 4 and 5; only if one is bad they are walked again, to tell the two apart.
+    fn check_seats<F: Fn(usize) -> Option<u64>>(&self, marks_of: F) -> Result<(), Refusal>
+        requires { Tells self.now (F.pre marks_of) (F.post marks_of) }
+        ensures { number_of result ≡ seats_refusal self.now }
+    {
+        if self.seats_fit(marks_of) {
+            return Ok(());
+        }
+        Err(self.seats_refusal())
+    }
+
+    // 4 or 5, for seats of which one is not as it should be. Few books come here, so it is kept out of the walk's code.
+    #[cold]
+    fn seats_refusal(&self) -> Refusal
+        requires { seats_fit self.now ≡ false }
+        ensures { number result ≡ seats_refusal self.now }
+    {
+        if !self.seats_good() {
+            return Refusal::Seat;
+        }
+        Refusal::SeatDirection
+    }
+
+    // Every activity is one that the rules allow.
+    fn activities_good(&self) -> bool
+        ensures { result ≡ activities_good self.now }
+    {
+        holds_for_all(self.activity_count(), |k| self.activity(k).is_good())
+    }
+
+    // Every seat is one that the rules allow.
+    fn seats_good(&self) -> bool
+        ensures { result ≡ seats_good self.now }
+    {
+        let activities = self.activity_count();
+        holds_for_all(self.seat_count(), |n| self.seat(n).is_good(activities))
+    }
+
+    // Every seat is one that the rules allow, and none is against its activity's direction.
+    fn seats_fit<F: Fn(usize) -> Option<u64>>(&self, marks_of: F) -> bool
+        requires { Tells self.now (F.pre marks_of) (F.post marks_of) }
+        ensures { result ≡ seats_fit self.now }
+    {
+        holds_for_all(self.seat_count(), |n| self.seat_fits(n, &marks_of))
+    }
+
+    fn seat_fits<F: Fn(usize) -> Option<u64>>(&self, n: usize, marks_of: &F) -> bool
+        requires n_bound { n < seat_count self.now }
+        requires marks { Tells self.now (F.pre marks_of.now) (F.post marks_of.now) }
+        ensures { result ≡ fits_at self.now n }
+    {
+        let x = self.seat(n);
+        let Some(marks) = marks_of(x.activity) else {
+            return false;
+        };
+        rules::marked(marks, x.role, x.table, x.state)
+    }
+
+    // The marks of activity `k`'s seats, where every activity is good; none if there is no such activity.
+    fn marks_of(&self, k: usize) -> Option<u64>
+        requires { activities_good self.now ≡ true }
+        ensures { TellsMarks self.now k result }
+    {
+        if self.activity_count() <= k {
+            return None;
+        }
+        Some(self.activity(k).seat_marks())
+    }
+
+    // Every activity is one that the rules allow, and then the marks of each one's seats stand at its number.
+    fn fill_marks(&self, marks: &mut [u64]) -> Result<(), Refusal>
+        requires { Marked self.now 0 marks.old }
+        ensures value { number_of result ≡ activities_refusal self.now }
+        ensures marks { IfOk result (λ _. Marked self.now (activity_count self.now) marks.new) }
+    {
+        let mut outcome = Ok(());
+        'walk: for k in 0..self.activity_count() {
+            let y = self.activity(k);
+            if !y.is_good() {
+                outcome = Err(Refusal::Activity);
+                break 'walk;
+            }
+            marks[k] = y.seat_marks();
+        }
+        outcome
+    }
+}
+
+// The refusal of a book.
+pub fn check(book: &[u8]) -> Result<(), Refusal>
+    ensures { number_of result ≡ book_refusal book.now }
+{
+    Book::new(book)?.check()
 }
 
 // Seat `n` in another state.
+#[tactic(auto, unfolding(crate::specs::Layout::put_state))]
 pub fn put_state(book: &mut [u8], n: usize, state: u8)
     requires shaped { Shaped book.old }
     requires n_bound { n < seat_count book.old }
@@ -119,6 +396,7 @@ pub fn put_state(book: &mut [u8], n: usize, state: u8)
 }
 
 // Activity `k` with another direction.
+#[tactic(auto, unfolding(crate::specs::Layout::put_direction))]
 fn put_direction(book: &mut [u8], k: usize, direction: u8)
     requires shaped { Shaped book.old }
     requires k_bound { k < activity_count book.old }
@@ -136,257 +414,4 @@ pub fn put_outcome(book: &mut [u8], n: usize, k: usize, state: u8, direction: u8
 {
     put_state(book, n, state);
     put_direction(book, k, direction);
-}
-
-// An atomic activity has directions up to 2 and a mixed one none: two fewer for one kind more. So it is a sum and no jump, as no processor
-// foresees an activity's kind.
-fn activity_good(kind: u8, direction: u8) -> bool
-    ensures { result ≡ activity_good kind direction }
-{
-    (ATOMIC <= kind) & (2 * (kind as usize) + direction as usize <= 4)
-}
-
-// The header's four numbers and the length.
-#[tactic(auto, unfolding(crate::specs::Book::numbers_good))]
-fn numbers_good(a: usize, s: usize, acts: usize, seats: usize, len: usize) -> bool
-    ensures { result ≡ numbers_good a s acts seats len }
-{
-    if ACTIVITIES_MOST < a {
-        return false;
-    }
-    if SEATS_MOST < s {
-        return false;
-    }
-    if acts != HEAD_SIZE {
-        return false;
-    }
-    if seats != HEAD_SIZE + ACTIVITY_SIZE * a {
-        return false;
-    }
-    len == HEAD_SIZE + ACTIVITY_SIZE * a + SEAT_SIZE * s
-}
-
-fn head_good(book: &[u8]) -> bool
-    requires { head_size ≤ length book.now }
-    ensures { result ≡ head_good book.now }
-{
-    let a = activity_count(book);
-    let s = seat_count(book);
-    let acts = records::u16_at(book, 4);
-    let seats = records::u16_at(book, 6);
-    numbers_good(a, s, acts, seats, book.len())
-}
-
-fn activity_good_at(book: &[u8], k: usize) -> bool
-    requires shaped { Shaped book.now }
-    requires k_bound { k < activity_count book.now }
-    ensures { result ≡ activity_good_at book.now k }
-{
-    let x = read_activity(book, k);
-    activity_good(x.kind, x.direction)
-}
-
-// Every activity is one that the rules allow.
-fn activities_good(book: &[u8]) -> bool
-    requires { Shaped book.now }
-    ensures { result ≡ activities_good book.now }
-{
-    let a = activity_count(book);
-    let mut i: usize = 0;
-    'walk: while i < a {
-        if !activity_good_at(book, i) {
-            break 'walk;
-        }
-        i += 1;
-    }
-    i == a
-}
-
-fn seat_good(a: usize, x: Seat) -> bool
-    ensures { result ≡ seat_good a x }
-{
-    if a <= x.activity {
-        return false;
-    }
-    rules::has_state(x.role, x.table, x.state)
-}
-
-fn seat_good_at(book: &[u8], n: usize) -> bool
-    requires shaped { Shaped book.now }
-    requires n_bound { n < seat_count book.now }
-    ensures { result ≡ seat_good_at book.now n }
-{
-    let a = activity_count(book);
-    let x = read_seat(book, n);
-    seat_good(a, x)
-}
-
-// Every seat is one that the rules allow.
-fn seats_good(book: &[u8]) -> bool
-    requires { Shaped book.now }
-    ensures { result ≡ seats_good book.now }
-{
-    let s = seat_count(book);
-    let mut i: usize = 0;
-    'walk: while i < s {
-        if !seat_good_at(book, i) {
-            break 'walk;
-        }
-        i += 1;
-    }
-    i == s
-}
-
-// The states that a seat of a good activity may have, by rules 4 and 5 together. An atomic activity without a direction, the two with
-// one and a mixed activity are 0, 1, 2 and 3: no processor foresees which of them it is, and four numbers are looked up without a jump.
-fn seat_marks(kind: u8, direction: u8) -> u64
-    requires { activity_good kind direction ≡ true }
-    ensures { result ≡ seat_marks kind direction }
-{
-    let which = (3 * (kind as usize) + direction as usize + 1) % 4;
-    match which {
-        0 => rules::suiting(rules::DIRECTION_NONE),
-        1 => rules::suiting(rules::DIRECTION_CLOSE),
-        2 => rules::suiting(rules::DIRECTION_COMPENSATE),
-        _ => rules::STATES,
-    }
-}
-
-// A seat as rules 4 and 5 want it.
-fn seat_fits(book: &[u8], n: usize) -> bool
-    requires shaped { Shaped book.now }
-    requires book_value { activities_good book.now ≡ true }
-    requires n_bound { n < seat_count book.now }
-    ensures { result ≡ fits_at book.now n }
-{
-    let x = read_seat(book, n);
-    let k = x.activity;
-    if activity_count(book) <= k {
-        return false;
-    }
-    let y = read_activity(book, k);
-    rules::marked(seat_marks(y.kind, y.direction), x.role, x.table, x.state)
-}
-
-// Every seat is one that the rules allow, and none is against its activity's direction.
-fn seats_fit(book: &[u8]) -> bool
-    requires shaped { Shaped book.now }
-    requires book_value { activities_good book.now ≡ true }
-    ensures { result ≡ seats_fit book.now }
-{
-    let s = seat_count(book);
-    let mut i: usize = 0;
-    'walk: while i < s {
-        if !seat_fits(book, i) {
-            break 'walk;
-        }
-        i += 1;
-    }
-    i == s
-}
-
-// Every activity is one that the rules allow, and then the marks of each one's seats stand at its number.
-fn activities_marked(book: &[u8], marks: &mut [u64]) -> bool
-    requires shaped { Shaped book.now }
-    requires marked { Marked book.now 0 marks.old }
-    ensures value { result ≡ activities_good book.now }
-    ensures marks { result ≡ true → Marked book.now (activity_count book.now) marks.new }
-{
-    let a = activity_count(book);
-    let mut i: usize = 0;
-    'walk: while i < a {
-        let y = read_activity(book, i);
-        if !activity_good(y.kind, y.direction) {
-            break 'walk;
-        }
-        marks[i] = seat_marks(y.kind, y.direction);
-        i += 1;
-    }
-    i == a
-}
-
-// A seat as `seat_fits` has it, where each activity's marks are at hand. An activity that there is not has none.
-fn seat_marked(book: &[u8], marks: &[u64], n: usize) -> bool
-    requires shaped { Shaped book.now }
-    requires n_bound { n < seat_count book.now }
-    requires marked { Marked book.now (activity_count book.now) marks.now }
-    ensures { result ≡ fits_at book.now n }
-{
-    let x = read_seat(book, n);
-    let k = x.activity;
-    rules::marked(marks[k], x.role, x.table, x.state)
-}
-
-fn seats_marked(book: &[u8], marks: &[u64]) -> bool
-    requires shaped { Shaped book.now }
-    requires marked { Marked book.now (activity_count book.now) marks.now }
-    ensures { result ≡ seats_fit book.now }
-{
-    let s = seat_count(book);
-    let mut i: usize = 0;
-    'walk: while i < s {
-        if !seat_marked(book, marks, i) {
-            break 'walk;
-        }
-        i += 1;
-    }
-    i == s
-}
-
-// 4 or 5, for seats of which one is not as it should be.
-fn seats_refused(book: &[u8]) -> u8
-    requires shaped { Shaped book.now }
-    requires book_value { seats_fit book.now ≡ false }
-    ensures { result ≡ seats_refusal book.now }
-{
-    if !seats_good(book) {
-        return REFUSED_SEAT;
-    }
-    REFUSED_SEAT_DIRECTION
-}
-
-// The refusal of a book's records, or 0. Seats are walked once for rules 4 and 5; only if one is bad they are walked again, to tell the two apart.
-fn few_refused(book: &[u8]) -> u8
-    requires { Shaped book.now }
-    ensures { result ≡ records_refusal book.now }
-{
-    if !activities_good(book) {
-        return REFUSED_ACTIVITY;
-    }
-    if seats_fit(book) {
-        return rules::GOOD;
-    }
-    seats_refused(book)
-}
-
-// The same. Every activity's marks are made once, and each seat is looked up in them: worth their making in a book of many seats.
-fn many_refused(book: &[u8]) -> u8
-    requires { Shaped book.now }
-    ensures { result ≡ records_refusal book.now }
-{
-    let mut marks = [0; 256];
-    if !activities_marked(book, &mut marks) {
-        return REFUSED_ACTIVITY;
-    }
-    if seats_marked(book, &marks) {
-        return rules::GOOD;
-    }
-    seats_refused(book)
-}
-
-// The refusal of a book, or 0.
-pub fn check(book: &[u8]) -> u8
-    ensures { result ≡ book_refusal book.now }
-{
-    if book.len() < HEAD_SIZE {
-        return REFUSED_BOOK_SHORT;
-    }
-    if !head_good(book) {
-        return REFUSED_LAYOUT;
-    }
-    if seat_count(book) < MANY_SEATS {
-        few_refused(book)
-    } else {
-        many_refused(book)
-    }
 }

@@ -10,14 +10,11 @@ use Rattle.lemmas.specs.Walks.{every}
 use Rattle.records.specs.declared.Event.{Event}
 use Rattle.records.specs.Records.{at16, flat, event_at, event_bytes, events_of}
 use Rattle.names.specs.Names.{bytes, message_names, way_names, same, named, look, message_named, way_named}
-use Rattle.line.specs.Grammar.{newline, space, line_most, index_of, has, before, after, is_seat, value, third_of, second_of, fields_of, line_of}
+use Rattle.line.specs.Grammar.{newline, space, line_most, index_of, has, before, after, is_seat, value, third_of, second_of, fields_of, line_of, Line, Good, Refused}
 use Rattle.line.specs.Laws.{Sound, Judged, line_judged}
-use Rattle.line.specs.declared.Line.{Line}
-use Rattle.line.specs.declared.Line.TheVariants.{Good, Refused}
-use Rattle.journal.specs.Journal.{lines, has_room, roomed, refusal_of, Outcome, events, refused, on_line, lines_from, outcome, events_in, reading_of, reading, area_after}
+use Rattle.journal.specs.Journal.{Reading, lines, has_room, roomed, refusal_of, Outcome, events, refused, on_line, lines_from, outcome, events_in, reading_of, reading, area_after}
 use Rattle.journal.specs.Laws.{roomed_refused}
 use Rattle.journal.specs.Theorems.{newlines, Numbered, numbered, one_answer, refused_nothing, good_count}
-use Rattle.journal.specs.declared.Reading.{Reading}
 use Rattle.spelled.specs.Spelled.{spelled, good_line, only_line}
 use Rattle.spelled.specs.Texts.{Journal, good_text, only_text}
 use Rattle.rules.specs.Cases.{marked}

@@ -1,15 +1,18 @@
 -- What the program prints for its whole input, sentence by sentence as 01 has it under 'The program', and what is left of the input.
 -- Assumes nothing.
-use Rattle.std.specs.Prelude.{ℕ, zero, suc, ◌+◌, ◌*◌, cond, List, [], ◌∷◌, ◌++◌, map, ltb, eqb, length, take, drop}
+use Rattle.std.specs.Prelude.{ℕ, zero, suc, ◌+◌, ◌*◌, ◌/◌, ◌<◌, cond, List, [], ◌∷◌, ◌++◌, map, ltb, eqb, length, take, drop}
+use Rattle.std.specs.List.{AllByRecursion}
 use Rattle.names.specs.Names.{bytes}
 use Rattle.records.specs.declared.Event.{Event}
+use Rattle.records.specs.Records.{flat}
 use Rattle.rules.specs.declared.Answer.{Answer}
 use Rattle.book.specs.Layout.{head_size, most_seats, activity_count, seat_count, size_of, seat_of}
 use Rattle.book.specs.Book.{book_refusal}
 use Rattle.run.specs.Run.{after, answers, most_events}
+use Rattle.demands.specs.Groups.{first_answers}
 use Rattle.line.specs.Grammar.{space, newline}
 use Rattle.journal.specs.Journal.{Outcome, events, refused, outcome}
-use Rattle.text.specs.Text.{field_most, decimal}
+use Rattle.text.specs.Text.{field_most, number_most, decimal}
 
 -- one space between fields; every line ends in a newline
 abbrev pub line : List (List ℕ) → List ℕ
@@ -108,16 +111,28 @@ book_line_most = term_most (bytes "book") + field_most
 abbrev pub report_most : ℕ
 report_most = book_line_most + event_line_most * most_events + seat_line_most * most_seats
 
--- the parts of lines that the code writes at once, and what it makes of a journal behind a good book
-unfoldable pub term : List ℕ → ℕ → ℕ → List ℕ
-term word n end = word ++ (space ∷ []) ++ decimal n ++ (end ∷ [])
+-- the numbers that end a line, a space before each
+abbrev pub spaced : List ℕ → List ℕ
+spaced numbers = flat (λ n. space ∷ decimal n) numbers
 
-unfoldable pub fields : ℕ → ℕ → ℕ → ℕ → ℕ → List ℕ
-fields a b c d end =
-    decimal a ++ (space ∷ []) ++ decimal b ++ (space ∷ []) ++ decimal c ++ (space ∷ []) ++ decimal d ++ (end ∷ [])
+unfoldable pub ending : List ℕ → List ℕ
+ending numbers = spaced numbers ++ (newline ∷ [])
 
+-- none of them has more than five digits
+abbrev pub FewDigits : List ℕ → Type 0
+FewDigits numbers = AllByRecursion (λ n. n < number_most) numbers
+
+-- with so many bytes, or fewer
+abbrev pub ending_most : ℕ → ℕ
+ending_most count = field_most * count + 1
+
+-- what the code makes of a journal behind a good book
 abbrev pub behind : List ℕ → ℕ → Judged
 behind input size = of_journal (take size input) (outcome (drop size input) records_most)
+
+-- the answers that stand in an area to the events of a list
+abbrev pub answers_in : List ℕ → List ℕ → List Answer
+answers_in area ev = first_answers (length ev / 4) area
 
 unfoldable pub listed : List ℕ → List Event → List Answer → List ℕ
 listed b es as' = book_line b ++ event_lines 1 es as' ++ seat_lines b (seat_count b)

@@ -18,11 +18,8 @@ use Rattle.demands.specs.Bytes.{events_joined}
 use Rattle.demands.specs.Neighbours.{after_acts, after_seats, after_length}
 use Rattle.demands.specs.Whole.{Ready, good_book}
 use Rattle.line.specs.Laws.{Sound, Judged as LineJudged, line_judged}
-use Rattle.line.specs.Grammar.{line_of}
-use Rattle.line.specs.declared.Line.{Line}
-use Rattle.line.specs.declared.Line.TheVariants.{Good as GoodLine, Refused}
-use Rattle.journal.specs.declared.Reading.{Reading}
-use Rattle.journal.specs.Journal.{lines, has_room, roomed, Outcome, events, refused, on_line, lines_from, outcome, events_in, reading_of, reading, area_after}
+use Rattle.line.specs.Grammar.{line_of, Line, Good as GoodLine, Refused}
+use Rattle.journal.specs.Journal.{Reading, lines, has_room, roomed, Outcome, events, refused, on_line, lines_from, outcome, events_in, reading_of, reading, area_after}
 use Rattle.journal.specs.Laws.{has_room_lem}
 use Rattle.text.specs.Text.{number_most}
 use Rattle.desk.specs.Desk.{records_most}

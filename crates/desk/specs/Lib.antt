@@ -1,5 +1,6 @@
 pub mod Desk
 pub mod Lines
 pub mod Journals
+pub mod Puts
 pub mod Ends
 pub mod Theorems

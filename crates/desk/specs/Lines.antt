@@ -1,78 +1,57 @@
 -- The parts that the code writes make the lines, and one more line in a loop is one more event, or one more seat.
 -- Assumes nothing.
-use Rattle.std.specs.Prelude.{ℕ, zero, suc, ◌+◌, ◌*◌, ◌≤◌, ◌<◌, ◌≡◌, refl, length, get_or}
+use Rattle.std.specs.Prelude.{ℕ, zero, suc, ◌+◌, ◌*◌, ◌≤◌, ◌<◌, ◌≡◌, refl, length, take, map, get_or}
 use Rattle.std.proofs.Common.{arith, add-one, sym, ◌∙◌}
 use Rattle.std.proofs.Math.Path.{ap}
+use Rattle.std.proofs.lemmas.List.{take_more}
 use mathlib.Core.List.{List, [], ◌∷◌, ◌++◌, append_assoc, append-nil}
 use Rattle.names.specs.Names.{bytes}
 use Rattle.records.specs.declared.Event.{Event}
 use Rattle.records.specs.Records.{at16, event_at, first_events}
-use Rattle.records.specs.Laws.{length_first_events}
+use Rattle.records.specs.Laws.{flat_append, flat_one, length_first_events}
 use Rattle.rules.specs.declared.Answer.{Answer}
 use Rattle.rules.specs.Rules.{answer}
 use Rattle.book.specs.Layout.{activity_count, seat_count, seat_of}
 use Rattle.run.specs.Step.{answer_at}
 use Rattle.demands.specs.Groups.{first_answers}
 use Rattle.line.specs.Grammar.{space, newline}
-use Rattle.text.specs.Text.{number_most, decimal, Put}
-use Rattle.text.specs.Laws.{put_same, joined}
-use Rattle.desk.specs.Desk.{line, term, fields, book_line, event_line, event_lines, seat_line, refused_book, refused_line}
+use Rattle.text.specs.Text.{number_most, decimal}
+use Rattle.desk.specs.Desk.{line, spaced, ending, book_line, event_line, event_lines, seat_line, refused_book, refused_line}
 
--- a line of two, three and four fields, and of eight
-module _ (a b c d : List ℕ) where
-  two : a ++ (space ∷ []) ++ b ++ (newline ∷ []) ≡ line (a ∷ b ∷ [])
-  two = simp append_assoc
+-- a field, and the numbers that end its line; one more of these
+pub line_ending : (f ns : List ℕ) → f ++ ending ns ≡ line (f ∷ map decimal ns)
+unfolding ending
+line_ending f [] = refl
+line_ending f (n ∷ ns) = ap (λ (l : List ℕ). f ++ (space ∷ l)) (append_assoc (decimal n) (spaced ns) (newline ∷ []) ∙ line_ending (decimal n) ns)
 
-  three : (a ++ (space ∷ []) ++ b ++ (space ∷ [])) ++ (c ++ (newline ∷ [])) ≡ line (a ∷ b ∷ c ∷ [])
-  three = simp append_assoc
+pub spaced_more : (ns : List ℕ) (i : ℕ) → i < length ns → spaced (take i ns) ++ (space ∷ decimal (get_or ns i 0)) ≡ spaced (take (i + 1) ns)
+spaced_more ns i h =
+    ap (λ (l : List ℕ). spaced (take i ns) ++ l) (sym (flat_one (λ (n : ℕ). space ∷ decimal n) (get_or ns i 0)))
+    ∙ sym (ap spaced (take_more ns i 0 h) ∙ flat_append (λ (n : ℕ). space ∷ decimal n) (take i ns) (get_or ns i 0 ∷ []))
 
-  four : (a ++ (space ∷ []) ++ b ++ (space ∷ [])) ++ (c ++ (space ∷ []) ++ d ++ (newline ∷ [])) ≡ line (a ∷ b ∷ c ∷ d ∷ [])
-  four = simp append_assoc
+-- the parts that the code writes
+pub event_parts : (n : ℕ) (e : Event) (a : Answer)
+    → decimal n ++ ending (e.seat ∷ e.way ∷ e.message ∷ a.refusal ∷ a.state ∷ a.action ∷ a.reply ∷ []) ≡ event_line n e a
+unfolding event_line
+event_parts n e a = line_ending (decimal n) (e.seat ∷ e.way ∷ e.message ∷ a.refusal ∷ a.state ∷ a.action ∷ a.reply ∷ [])
 
-  eight : (e f g h : List ℕ)
-      → (a ++ (space ∷ []) ++ b ++ (space ∷ []) ++ c ++ (space ∷ []) ++ d ++ (space ∷ [])) ++ (e ++ (space ∷ []) ++ f ++ (space ∷ []) ++ g ++ (space ∷ []) ++ h ++ (newline ∷ []))
-      ≡ line (a ∷ b ∷ c ∷ d ∷ e ∷ f ∷ g ∷ h ∷ [])
-  eight e f g h = simp append_assoc
+pub seat_parts : (b : List ℕ) (n : ℕ) → bytes "seat" ++ ending (n ∷ (seat_of b n).state ∷ []) ≡ seat_line b n
+unfolding seat_line
+seat_parts b n = line_ending (bytes "seat") (n ∷ (seat_of b n).state ∷ [])
 
--- what the code writes one after the other
-module _ {o p q r s : List ℕ} {at k l m n : ℕ} where
-  pub put_fields : (a b c d end : ℕ) → Put o at (decimal a ++ (space ∷ [])) p k → Put p k (decimal b ++ (space ∷ [])) q l
-      → Put q l (decimal c ++ (space ∷ [])) r m → Put r m (decimal d ++ (end ∷ [])) s n → Put o at (fields a b c d end) s n
-  unfolding fields
-  put_fields a b c d end f g h i = put_same (simp append_assoc) (joined (joined (joined f g) h) i)
+pub book_parts : (b : List ℕ) → bytes "book" ++ ending (activity_count b ∷ seat_count b ∷ []) ≡ book_line b
+unfolding book_line
+book_parts b = line_ending (bytes "book") (activity_count b ∷ seat_count b ∷ [])
 
-module _ {o p q r : List ℕ} {at k l m : ℕ} where
-  pub put_term : (w : List ℕ) (x end : ℕ) → Put o at w p k → Put p k (space ∷ []) q l → Put q l (decimal x ++ (end ∷ [])) r m → Put o at (term w x end) r m
-  unfolding term
-  put_term w x end f g h = put_same (sym (append_assoc (w ++ (space ∷ [])) (decimal x) (end ∷ []))) (joined (joined f g) h)
+pub refused_book_parts : (number : ℕ) → bytes "refused" ++ ending (number ∷ []) ≡ refused_book number
+unfolding refused_book
+refused_book_parts number = line_ending (bytes "refused") (number ∷ [])
 
-module _ {o p q : List ℕ} {at k l : ℕ} where
-  pub put_refused_line : (x y i : ℕ) → y ≡ x → Put o at (term (bytes "refused") y space) p k → Put p k (term (bytes "line") i newline) q l → Put o at (refused_line x i) q l
-  unfolding term refused_line
-  put_refused_line x y i e f g = put_same (four (bytes "refused") (decimal y) (bytes "line") (decimal i) ∙ ap (λ (z : ℕ). refused_line z i) e) (joined f g)
-
-  pub put_book : (b : List ℕ) (x y : ℕ) → x ≡ activity_count b → y ≡ seat_count b
-      → Put o at (term (bytes "book") x space) p k → Put p k (decimal y ++ (newline ∷ [])) q l → Put o at (book_line b) q l
-  unfolding term book_line
-  put_book b x y e e' f g = put_same (three (bytes "book") (decimal x) (decimal y) [] ∙ (λ j. line (bytes "book" ∷ decimal (e j) ∷ decimal (e' j) ∷ []))) (joined f g)
-
-  pub put_seat : (b : List ℕ) (i x : ℕ) → x ≡ (seat_of b i).state
-      → Put o at (term (bytes "seat") i space) p k → Put p k (decimal x ++ (newline ∷ [])) q l → Put o at (seat_line b i) q l
-  unfolding term seat_line
-  put_seat b i x e f g = put_same (three (bytes "seat") (decimal i) (decimal x) [] ∙ ap (λ (z : ℕ). line (bytes "seat" ∷ decimal i ∷ decimal z ∷ [])) e) (joined f g)
-
-  pub put_event : (i : ℕ) (e : Event) (a : Answer) (x y z t u v : ℕ) → x ≡ e.way → y ≡ e.message → z ≡ a.refusal → t ≡ a.state → u ≡ a.action → v ≡ a.reply
-      → Put o at (fields i e.seat x y space) p k → Put p k (fields z t u v newline) q l → Put o at (event_line i e a) q l
-  unfolding fields event_line
-  put_event i e a x y z t u v ex ey ez et eu ev f g =
-      put_same (eight (decimal i) (decimal e.seat) (decimal x) (decimal y) (decimal z) (decimal t) (decimal u) (decimal v)
-      ∙ (λ j. line (decimal i ∷ decimal e.seat ∷ decimal (ex j) ∷ decimal (ey j) ∷ decimal (ez j) ∷ decimal (et j) ∷ decimal (eu j) ∷ decimal (ev j) ∷ [])))
-      (joined f g)
-
-module _ {o p : List ℕ} {at k : ℕ} where
-  pub put_refused_book : (x y : ℕ) → y ≡ x → Put o at (term (bytes "refused") y newline) p k → Put o at (refused_book x) p k
-  unfolding term refused_book
-  put_refused_book x y e f = put_same (two (bytes "refused") (decimal y) [] [] ∙ ap refused_book e) f
+pub refused_line_parts : (number n : ℕ)
+    → bytes "refused" ++ ((space ∷ []) ++ ((decimal number ++ (space ∷ [])) ++ (bytes "line" ++ ending (n ∷ [])))) ≡ refused_line number n
+unfolding refused_line
+refused_line_parts number n =
+    ap (λ (l : List ℕ). bytes "refused" ++ (space ∷ l)) (append_assoc (decimal number) (space ∷ []) (bytes "line" ++ ending (n ∷ [])) ∙ ap (λ (l : List ℕ). decimal number ++ (space ∷ l)) (line_ending (bytes "line") (n ∷ [])))
 
 -- one more event and its answer
 lines_more : (i : ℕ) (es : List Event) (as' : List Answer) (e : Event) (a : Answer) → length es ≡ length as'

@@ -1,92 +1,95 @@
 -- What is kept while a text is read: after n good lines the kept bytes begin with the records of their events, and what the whole
 -- text gives is those events in front of what the text from the next line on gives.
 -- Assumes nothing.
-use Rattle.std.proofs.Common.{ℕ, suc, ◌+◌, ◌*◌, ◌<◌, ◌≤◌, arith, add-one, ◌≡◌, refl, sym, ◌∙◌, ap, List, [], ◌∷◌, ◌++◌, append-nil, length, take, drop, length-append, length-drop, drop_of_length-le, take_at, drop-drop, lt-ltb, le-ltb}
+use Rattle.std.proofs.Common.{◌==◌, eqb-true, Bool, true, false, Result, Ok, Err, ℕ, suc, ◌+◌, ◌*◌, ◌<◌, ◌≤◌, arith, add-one, ◌≡◌, refl, sym, ◌∙◌, ap, List, [], ◌∷◌, ◌++◌, append-nil, length, take, drop, length-append, length-drop, take_at, lt-ltb, le-ltb}
+use Rattle.std.proofs.lemmas.List.{nil_from_length}
 use Rattle.records.specs.Records.{placed, flat, event_bytes}
 use Rattle.records.specs.Laws.{placed_next, flat_append, length_flat}
 use Rattle.records.specs.declared.Event.{Event}
-use Rattle.line.specs.Grammar.{newline, line_most, index_of, line_of}
+use Rattle.line.specs.Grammar.{newline, line_most, index_of, line_of, told as line_told, Good, Refused}
+use Rattle.line.specs.declared.Refusal.{Refusal as LineRefusal}
 use Rattle.line.specs.Places.{index_take}
 use Rattle.line.specs.Laws.{line_newline}
-use Rattle.line.specs.declared.Line.TheVariants.{Good, Refused}
-use Rattle.journal.specs.Journal.{lines, has_room, roomed, Outcome, events, refused, infront, lines_from, events_in, reading_of, outcome, reading, area_after, Owed}
-use Rattle.journal.specs.Laws.{infront_none, infront_more, roomed_good, has_room_lem, first_refused, first_good}
-use Rattle.journal.specs.declared.Reading.{Reading}
+use Rattle.journal.specs.Journal.{Reading, lines, has_room, roomed, refusal_of, Outcome, events, refused, infront, lines_from, events_in, reading_of, outcome, reading, area_after, Owed}
+use Rattle.journal.specs.Laws.{infront_none, infront_more, first_refused, first_good}
 
 length_records : (es : List Event) → length (flat event_bytes es) ≡ 4 * length es
 length_records es = length_flat event_bytes 4 (λ e. refl) es
 
-abbrev pub Kept : List ℕ → ℕ → List ℕ → List ℕ → ℕ → ℕ → Type 0
-Kept text area kept₀ kept at n =
-    (es : List Event)
-    × (length es ≡ n)
-    × (kept ≡ flat event_bytes es ++ drop (4 * n) kept₀)
-    × (lines_from area 0 (lines text) ≡ infront es (lines_from area n (lines (drop at text))))
+pub record Kept (text : List ℕ) (area : ℕ) (kept₀ kept rest : List ℕ) (n : ℕ) : Type 0 where
+  pub so_far : List Event
+  pub count : length so_far ≡ n
+  pub bytes : kept ≡ flat event_bytes so_far ++ drop (4 * n) kept₀
+  pub left : lines_from area 0 (lines text) ≡ infront so_far (lines_from area n (lines rest))
 
-pub kept_none : (text : List ℕ) (area : ℕ) (kept : List ℕ) → Kept text area kept kept 0 0
-kept_none text area kept = ([], refl, refl, sym (infront_none (lines_from area 0 (lines text))))
+-- what `is_empty` says of a text
+pub some_left : (rest : List ℕ) → false ≡ (length rest == 0) → 0 < length rest
+some_left [] h = absurd (cc)
+some_left (x ∷ rest) h = omega arith
 
-module _ (text : List ℕ) (area : ℕ) (kept₀ kept : List ℕ) (at n : ℕ) where
-  pub kept_length : Kept text area kept₀ kept at n → 4 * n ≤ length kept₀ → length kept ≡ length kept₀
-  kept_length (es, l, k, w) h = rw (k, length-append, length_records es, l, length-drop (4 * n) kept₀) (omega arith)
+pub none_left : (rest : List ℕ) → true ≡ (length rest == 0) → length rest ≡ 0
+none_left rest h = eqb-true (length rest) 0 (sym h)
 
-  module _ (more : at < length text) where
-    some_left : 0 < length (drop at text)
-    some_left = simp length-drop (omega arith)
+-- why a line's event is not kept
+pub no_room : (said : Result Event LineRefusal) (k : ℕ) → k ≡ refusal_of (roomed false (line_told said)) → roomed false (line_told said) ≡ Refused k
+no_room (Ok e) k h = ap Refused (sym h)
+no_room (Err r) k h = ap Refused (sym h)
 
-    pub kept_refused :
-        Kept text area kept₀ kept at n → (r : ℕ) → roomed (has_room area n) (line_of (drop at text)) ≡ Refused r
-        → lines_from area 0 (lines text) ≡ refused r (n + 1)
-    kept_refused (es, l, k, w) r q = w ∙ rw (first_refused area n (drop at text) some_left r q, add-one)
+pub no_event : (b : Bool) (r : LineRefusal) (k : ℕ) → k ≡ refusal_of (roomed false (line_told (Err r))) → roomed b (line_told (Err r)) ≡ Refused k
+no_event true r k h = ap Refused (sym h)
+no_event false r k h = ap Refused (sym h)
 
-    module _ (e : Event) (said : roomed (has_room area n) (line_of (drop at text)) ≡ Good e) where
-      pub room_for : (n < 4096) × (4 * n + 4 ≤ area)
-      room_for = has_room_lem area n (roomed_good (has_room area n) (line_of (drop at text)) e said).0
+pub kept_none : (text : List ℕ) (area : ℕ) (kept : List ℕ) → Kept text area kept kept text 0
+kept_none text area kept = record { so_far = []; count = refl; bytes = refl; left = sym (infront_none (lines_from area 0 (lines text))) }
 
-      pub length_of : (m : ℕ) → m ≡ index_of newline (take line_most (drop at text)) → (m ≡ index_of newline (drop at text)) × (at + (m + 1) ≤ length text)
-      length_of m q =
-          let t = drop at text in
-          let g = line_newline t e (roomed_good (has_room area n) (line_of t) e said).1 in
-          let p = index_take newline line_most t in
-          let d = length-drop at text in
+module _ (text : List ℕ) (area : ℕ) (kept₀ kept rest : List ℕ) (n : ℕ) (k : Kept text area kept₀ kept rest n) where
+  pub kept_length : 4 * n ≤ length kept₀ → length kept ≡ length kept₀
+  kept_length h = rw (k.bytes, length-append, length_records k.so_far, k.count, length-drop (4 * n) kept₀) (omega arith)
+
+  module _ (more : 0 < length rest) where
+    pub kept_refused : (r : ℕ) → roomed (has_room area n) (line_of rest) ≡ Refused r → lines_from area 0 (lines text) ≡ refused r (n + 1)
+    kept_refused r q = k.left ∙ rw (first_refused area n rest more r q, add-one)
+
+    module _ (e : Event) (room : has_room area n ≡ true) (said : Good e ≡ line_of rest) where
+      roomy : roomed (has_room area n) (line_of rest) ≡ Good e
+      roomy = rw (room, ← said)
+
+      pub line_within : (m : ℕ) → m ≡ index_of newline (take line_most rest) → (m ≡ index_of newline rest) × (m < length rest)
+      line_within m q =
+          let g = line_newline rest e (sym said) in
+          let p = index_take newline line_most rest in
           (omega arith, omega arith)
 
       pub kept_good :
-          Kept text area kept₀ kept at n → (m : ℕ) → m ≡ index_of newline (take line_most (drop at text))
-          → (kept' : List ℕ) → kept' ≡ placed kept (4 * n) (event_bytes e) → Kept text area kept₀ kept' (at + (m + 1)) (n + 1)
-      kept_good (es, l, k, w) m q kept' k' =
-          let t = drop at text in
-          let i = index_of newline t in
-          let f : length (flat event_bytes es) ≡ 4 * n = length_records es ∙ ap (λ (x : ℕ). 4 * x) l in
-          let g = length_of m q in
+          (m : ℕ) → m ≡ index_of newline (take line_most rest) → (kept' : List ℕ) → kept' ≡ placed kept (4 * n) (event_bytes e)
+          → Kept text area kept₀ kept' (drop (m + 1) rest) (n + 1)
+      kept_good m q kept' k' =
+          let es = k.so_far in
+          let f : length (flat event_bytes es) ≡ 4 * n = length_records es ∙ ap (λ (x : ℕ). 4 * x) k.count in
           let s : 4 * (n + 1) ≡ 4 * n + 4 = omega arith in
-          let p : at + suc i ≡ at + (m + 1) = omega arith in
-          let d : drop (suc i) t ≡ drop (at + (m + 1)) text = drop-drop (suc i) at text ∙ ap (λ (x : ℕ). drop x text) p in (
-            es ++ (e ∷ []),
-            length-append es (e ∷ []) ∙ omega arith,
-            rw (k', k, placed_next (flat event_bytes es) kept₀ (event_bytes e) (4 * n) f, flat_append event_bytes es (e ∷ []), s),
-            w ∙ ap (infront es) (first_good area n t some_left e said) ∙ infront_more es (e ∷ []) (lines_from area (suc n) (lines (drop (suc i) t))) ∙ rw (d, add-one n),
-          )
-
-  pub kept_all :
-      Kept text area kept₀ kept at n → length text ≤ at
-      → (es : List Event) × (length es ≡ n) × (kept ≡ flat event_bytes es ++ drop (4 * n) kept₀) × (lines_from area 0 (lines text) ≡ events es)
-  kept_all (es, l, k, w) h = (es, l, k, w ∙ rw (drop_of_length-le text h, append-nil))
+          let d : suc (index_of newline rest) ≡ m + 1 = omega (arith, (line_within m q).0) in
+          record {
+            so_far = es ++ (e ∷ []);
+            count = length-append es (e ∷ []) ∙ omega (arith, k.count);
+            bytes = rw (k', k.bytes, placed_next (flat event_bytes es) kept₀ (event_bytes e) (4 * n) f, flat_append event_bytes es (e ∷ []), s);
+            left = k.left ∙ ap (infront es) (first_good area n rest more e roomy)
+                ∙ infront_more es (e ∷ []) (lines_from area (suc n) (lines (drop (suc (index_of newline rest)) rest)))
+                ∙ rw (d, add-one n);
+          }
 
 module _ (whole : Outcome) (kept : List ℕ) (area : ℕ) where
-  pub owed_refused :
-      (number line : ℕ) → whole ≡ refused number line → (count : ℕ) → count ≡ 0
-      → Owed whole (record { refusal = number; line = line; count = count }) kept area
-  owed_refused number line w count q = rw (q, w) (record { value = refl; records = refl; fits = omega arith; within = omega arith })
+  pub owed_refused : (number line : ℕ) → whole ≡ refused number line → Owed whole (record { refusal = number; line = line; count = 0 }) kept area
+  owed_refused number line w = rw w (record { value = refl; records = refl; fits = omega arith; within = omega arith })
 
   pub owed_good :
-      (kept₀ : List ℕ) (n : ℕ)
-      → (es : List Event) × (length es ≡ n) × (kept ≡ flat event_bytes es ++ drop (4 * n) kept₀) × (whole ≡ events es)
-      → 4 * n ≤ area → 4 * n ≤ length kept → (count : ℕ) → count ≡ n → Owed whole (record { refusal = 0; line = 0; count = count }) kept area
-  owed_good kept₀ n (es, l, k, w) h g count q =
-      let f : length (flat event_bytes es) ≡ 4 * n = length_records es ∙ ap (λ (x : ℕ). 4 * x) l in
-      let c : take (4 * n) kept ≡ flat event_bytes es = rw k (take_at (flat event_bytes es) (drop (4 * n) kept₀) (4 * n) f) in
-      rw q (record { value = rw (w, l); records = rw w c; fits = h; within = g })
+      (text kept₀ rest : List ℕ) (n : ℕ) → whole ≡ lines_from area 0 (lines text) → Kept text area kept₀ kept rest n → length rest ≡ 0
+      → 4 * n ≤ area → 4 * n ≤ length kept → Owed whole (record { refusal = 0; line = 0; count = n }) kept area
+  owed_good text kept₀ rest n v k z h g =
+      let es = k.so_far in
+      let w : whole ≡ events es = v ∙ k.left ∙ rw (nil_from_length rest z, append-nil) in
+      let f : length (flat event_bytes es) ≡ 4 * n = length_records es ∙ ap (λ (x : ℕ). 4 * x) k.count in
+      let c : take (4 * n) kept ≡ flat event_bytes es = rw k.bytes (take_at (flat event_bytes es) (drop (4 * n) kept₀) (4 * n) f) in
+      record { value = rw (w, k.count); records = rw w c; fits = h; within = g }
 
 count_of : (o : Outcome) → (reading_of o).count ≡ length (events_in o)
 count_of (events es) = refl

@@ -1,13 +1,13 @@
 -- A journal, as 01 has it under 'Journal lines': a text is its lines, each line says an event or a refusal, and the text gives
 -- the events of all its lines or the first refusal with its line's number.
 -- Assumes nothing.
-use Rattle.std.specs.Prelude.{ℕ, suc, ◌+◌, ◌*◌, ◌≤◌, ◌≡◌, Bool, true, false, ◌&&◌, cond, List, [], ◌∷◌, ◌++◌, eqb, leb, ltb, length, take, drop}
+use Rattle.std.specs.Prelude.{Result, Ok, Err, ℕ, suc, ◌+◌, ◌*◌, ◌≤◌, ◌≡◌, Bool, true, false, ◌&&◌, cond, List, [], ◌∷◌, ◌++◌, eqb, leb, ltb, length, take, drop}
 use Rattle.records.specs.Records.{flat, event_bytes}
 use Rattle.records.specs.declared.Event.{Event}
-use Rattle.line.specs.Grammar.{newline, line_of}
-use Rattle.line.specs.declared.Line.{Line}
-use Rattle.line.specs.declared.Line.TheVariants.{Good, Refused}
-use Rattle.journal.specs.declared.Reading.{Reading}
+use Rattle.line.specs.Grammar.{newline, line_of, Line, Good, Refused, number as line_number}
+use Rattle.journal.specs.declared.Refusal.{Refusal}
+use Rattle.journal.specs.declared.Refusal.TheVariants.{Line as OfLine, Room, TextLong}
+use Rattle.journal.specs.declared.Refused.{Refused as Refusing}
 
 -- a byte in front of the first line
 abbrev pub longer : ℕ → List (List ℕ) → List (List ℕ)
@@ -57,6 +57,22 @@ lines_from area n (l ∷ ls) = on_line (suc n) (roomed (has_room area n) (line_o
 -- 26: a text over 65,536 bytes, of no line; then line by line
 unfoldable pub outcome : List ℕ → ℕ → Outcome
 outcome text area = cond (ltb 65536 (length text)) (refused 26 0) (lines_from area 0 (lines text))
+
+-- what a reading comes to: a refusal's number, its line and the count of events
+pub record Reading : Type 0 where
+  pub refusal : ℕ
+  pub line : ℕ
+  pub count : ℕ
+
+-- what the code answers, in these terms
+abbrev pub number : Refusal → ℕ
+number (OfLine r) = line_number r
+number Room = 25
+number TextLong = 26
+
+abbrev pub told : Result ℕ Refusing → Reading
+told (Ok n) = record { refusal = 0; line = 0; count = n }
+told (Err e) = record { refusal = number e.refusal; line = e.line; count = 0 }
 
 -- a refusal has no events
 abbrev pub events_in : Outcome → List Event

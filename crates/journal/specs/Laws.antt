@@ -5,10 +5,8 @@ use Rattle.std.proofs.Common.{arith, sym, ◌∙◌, ap, append_assoc}
 use Rattle.std.proofs.Math.Bool.{and-false, and-eq-true_iff}
 use borrow.Author.Tests.{ltb-true, leb-true, lt-ltb, le-ltb, le-leb, lt-leb}
 use Rattle.records.specs.declared.Event.{Event}
-use Rattle.line.specs.Grammar.{newline, index_of, line_of}
+use Rattle.line.specs.Grammar.{newline, index_of, line_of, Line, Good, Refused}
 use Rattle.line.specs.Laws.{line_first}
-use Rattle.line.specs.declared.Line.{Line}
-use Rattle.line.specs.declared.Line.TheVariants.{Good, Refused}
 use Rattle.journal.specs.Journal.{longer, lines, has_room, roomed, Outcome, events, refused, infront, on_line, lines_from}
 
 -- the first line ends with the first newline

@@ -5,14 +5,11 @@ use Rattle.std.proofs.Common.{arith, sym, ◌∙◌, ap, length-append}
 use Rattle.std.proofs.lemmas.List.{drop-append-le}
 use Rattle.records.specs.Records.{flat, event_bytes}
 use Rattle.records.specs.declared.Event.{Event}
-use Rattle.line.specs.Grammar.{newline, index_of, line_of}
+use Rattle.line.specs.Grammar.{newline, index_of, line_of, Line, Good, Refused}
 use Rattle.line.specs.Places.{index_append}
 use Rattle.line.specs.Laws.{line_newline, line_append, Judged, line_judged}
-use Rattle.line.specs.declared.Line.{Line}
-use Rattle.line.specs.declared.Line.TheVariants.{Good, Refused}
-use Rattle.journal.specs.Journal.{lines, has_room, roomed, Outcome, events, refused, infront, on_line, lines_from, outcome, events_in, reading_of, reading, area_after}
+use Rattle.journal.specs.Journal.{Reading, lines, has_room, roomed, Outcome, events, refused, infront, on_line, lines_from, outcome, events_in, reading_of, reading, area_after}
 use Rattle.journal.specs.Laws.{infront_none, infront_more, roomed_good, first_said, first_good}
-use Rattle.journal.specs.declared.Reading.{Reading}
 
 -- any two answers that the contract allows are the same, numbers and bytes
 pub one_answer :

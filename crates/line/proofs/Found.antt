@@ -1,27 +1,26 @@
 -- What the quick way finds: a seat, a way and a name, each with the byte behind it.
 -- The argument: bytes whose words are the same, whole or under a mask, are the same (`same_lower`, `same_masked`).
 -- Assumes nothing.
-use Rattle.std.proofs.Common.{◌≡◌, ℕ, zero, suc, ◌+◌, ◌-◌, ◌*◌, ◌%◌, ◌^◌, ◌<◌, ◌≤◌, min, Bool, true, false, not, ◌&&◌, ◌||◌, eqb, leb, ◌⊎◌, List, [], ◌∷◌, ◌++◌, length, get_or, take, drop, sym, refl, ap, ◌∙◌, subst, inl, inr, ⊎_elim, append_assoc, add-one, arith, length-append, take-append-drop, length-take, drop-cons, drop-drop, take-add, ne_eqb, eqb-true, bit_and}
+use Rattle.std.proofs.Common.{◌≡◌, ℕ, zero, suc, ◌+◌, ◌-◌, ◌*◌, ◌%◌, ◌^◌, ◌<◌, ◌≤◌, min, Bool, true, false, not, ◌&&◌, ◌||◌, eqb, leb, ◌⊎◌, List, [], ◌∷◌, ◌++◌, length, get_or, take, drop, sym, refl, ap, ◌∙◌, inl, inr, ⊎_elim, append_assoc, add-one, arith, length-append, take-append-drop, length-take, drop-cons, drop-drop, take-add, ne_eqb, eqb-true, bit_and}
 use Rattle.std.proofs.lemmas.Bool.{false≢true, eqb-false, not-true, not-false}
-use mir.Val.{bool_byte}
 use mir.Facts.{eqb_yes}
 use Rattle.lemmas.specs.Bools.{both, both_of}
 use Rattle.lemmas.specs.Ranges.{each_at}
 use Rattle.lemmas.specs.Orders.{below_or}
-use Rattle.records.specs.declared.Event.{Event}
 use Rattle.words.specs.Words.{word_at}
 use Rattle.words.specs.Laws.{Bytes, bytes_are, same_lower, same_masked}
 use Rattle.names.specs.Names.{bytes, name_of, way_name}
-use Rattle.line.specs.Grammar.{newline, space, line_most, index_of, well_begun, is_seat, line_of}
-use Rattle.line.specs.Places.{index_take, index_within}
+use Rattle.names.specs.Numbers.{way_number}
+use Rattle.names.specs.declared.Way.{Way}
+use Rattle.names.specs.declared.Way.TheVariants.{Got, Sent}
+use Rattle.names.specs.Laws.{way_range}
+use Rattle.line.specs.Grammar.{newline, space, line_most, index_of, well_begun, is_seat, Good, line_of}
+use Rattle.line.specs.Places.{index_take}
 use Rattle.line.specs.Cuts.{index_free}
 use Rattle.line.specs.Reads.{last_two, fields_from, event, fields_whole, fields_most, fields_line}
-use Rattle.line.specs.declared.Line.TheVariants.{Good}
-use Rattle.line.specs.Quick.{aid_bytes, Digits, SeatAt, WayAt, NameAt, Told}
-use Rattle.line.specs.declared.quick.Number.{Number}
-use Rattle.line.specs.declared.quick.Quick.{Quick}
-use Rattle.line.specs.declared.quick.Quick.TheVariants.{Read}
-use Rattle.line.proofs.Rows.{row_is, mask_low, mask_high, aids_length}
+use Rattle.line.specs.Quick.{aid_bytes, Digits, SeatAt, WayAt, NameAt}
+use Rattle.line.specs.declared.Number.{Number}
+use Rattle.line.proofs.Rows.{row_is, mask_low, mask_high, aids_length, aids_fit}
 
 -- a seat: some digits, and no 0 before others
 begun : (l : List ℕ) (n : ℕ) → (n ≡ 0 → ⊥) → n ≤ length l → (n ≤ 1) ⊎ (get_or l 0 0 ≡ 48 → ⊥) → well_begun (take n l) ≡ true
@@ -55,55 +54,49 @@ neither true b h = absurd (false≢true (sym h))
 neither false b h = (refl, h)
 
 -- a way: four bytes compared as one number, and a space
-four : Bool → List ℕ
-four true = bytes "sent"
-four false = bytes "got "
+four : Way → List ℕ
+four Sent = bytes "sent"
+four Got = bytes "got "
 
 abbrev four_bytes : ℕ
 four_bytes = 2 ^ 32
 
-abbrev pub four_of : Bool → ℕ
-four_of true = 0x746e6573
-four_of false = 0x20746f67
+abbrev pub four_of : Way → ℕ
+four_of Sent = 0x746e6573
+four_of Got = 0x20746f67
 
 module _ (l : List ℕ) (at : ℕ) (b : Bytes l) (p : at + 8 ≤ length l) where
-  is_four : (t : Bool) → word_at l at % four_bytes ≡ four_of t → take 4 (drop at l) ≡ four t
+  is_four : (w : Way) → word_at l at % four_bytes ≡ four_of w → take 4 (drop at l) ≡ four w
   unfolding word_at four
-  is_four true e = same_lower l (bytes "sent") at 0 4 b (bytes_are (bytes "sent") tt) (omega arith) (omega arith) (omega arith) e
-  is_four false e = same_lower l (bytes "got ") at 0 4 b (bytes_are (bytes "got ") tt) (omega arith) (omega arith) (omega arith) e
+  is_four Sent e = same_lower l (bytes "sent") at 0 4 b (bytes_are (bytes "sent") tt) (omega arith) (omega arith) (omega arith) e
+  is_four Got e = same_lower l (bytes "got ") at 0 4 b (bytes_are (bytes "got ") tt) (omega arith) (omega arith) (omega arith) e
 
-  way_stands : (t : Bool) → word_at l at % four_bytes ≡ four_of t → get_or l (at + 3 + bool_byte t) 0 ≡ 32
-      → drop at l ≡ way_name (bool_byte t) ++ space ∷ drop (at + 4 + bool_byte t) l
+  way_stands : (w : Way) → word_at l at % four_bytes ≡ four_of w → get_or l (at + 3 + way_number w) 0 ≡ 32
+      → drop at l ≡ way_name (way_number w) ++ space ∷ drop (at + 4 + way_number w) l
   unfolding four
-  way_stands true e s =
+  way_stands Sent e s =
       let z : at + 3 + 1 ≡ at + 4 = omega arith in
       let y : suc (at + 4) ≡ at + 4 + 1 = omega arith in
-      stands l (bytes "sent") at 4 (is_four true e)
+      stands l (bytes "sent") at 4 (is_four Sent e)
       ∙ ap (λ (r : List ℕ). bytes "sent" ++ r) (drop-cons l (at + 4) 0 (omega arith) ∙ (λ j. (ap (λ (k : ℕ). get_or l k 0) (sym z) ∙ s) j ∷ drop (y j) l))
-  way_stands false e s =
+  way_stands Got e s =
       let z : at + 4 ≡ at + 4 + 0 = omega arith in
-      stands l (bytes "got ") at 4 (is_four false e) ∙ ap (λ (k : ℕ). bytes "got " ++ drop k l) z
-
-  way_is : (t : Bool) → word_at l at % four_bytes ≡ four_of t → get_or l (at + 3 + bool_byte t) 0 ≡ 32 → WayAt l at (bool_byte t)
-  way_is true e s = record { most = omega arith; stands = λ _. way_stands true e s }
-  way_is false e s = record { most = omega arith; stands = λ _. way_stands false e s }
+      stands l (bytes "got ") at 4 (is_four Got e) ∙ ap (λ (k : ℕ). bytes "got " ++ drop k l) z
 
   pub way_found :
-      (t : Bool) (word way : ℕ) → word ≡ word_at l at → way ≡ four_of t
-      → (not (eqb (word % four_bytes) way) || not (eqb (get_or l (at + 3 + bool_byte t) 0) 32)) ≡ false → WayAt l at (bool_byte t)
-  way_found t word way e f h =
-      let w = neither (not (eqb (word % four_bytes) way)) _ h in
-      way_is t (ap (λ (x : ℕ). x % four_bytes) (sym e) ∙ eqb-true (word % four_bytes) way (not-false _ w.0) ∙ f)
-      (eqb-true (get_or l (at + 3 + bool_byte t) 0) 32 (not-false _ w.1))
-
--- which number is compared
-pub way_chosen : {P Q : Type 0} (t : Bool) (way : ℕ) → (P → t ≡ true) → (Q → t ≡ false) → (P × (way ≡ four_of true)) ⊎ (Q × (way ≡ four_of false)) → way ≡ four_of t
-way_chosen t way f g (inl w) = w.1 ∙ ap four_of (sym (f w.0))
-way_chosen t way f g (inr w) = w.1 ∙ ap four_of (sym (g w.0))
+      (w : Way) (word number : ℕ) → word ≡ word_at l at → number ≡ four_of w
+      → (not (eqb (word % four_bytes) number) || not (eqb (get_or l (at + 3 + way_number w) 0) 32)) ≡ false → WayAt l at (way_number w)
+  way_found w word number e f h =
+      let n = neither (not (eqb (word % four_bytes) number)) _ h in
+      let same : word_at l at % four_bytes ≡ four_of w = ap (λ (x : ℕ). x % four_bytes) (sym e) ∙ eqb-true (word % four_bytes) number (not-false _ n.0) ∙ f in
+      record {
+        most = omega (arith, way_range w);
+        stands = λ _. way_stands w same (eqb-true (get_or l (at + 3 + way_number w) 0) 32 (not-false _ n.1));
+      }
 
 -- a name: its bytes and the newline, compared as two numbers with those of a row of the aids t
 module _
-    (l t : List ℕ) (at m letters : ℕ) (e : t ≡ aid_bytes) (b : Bytes l) (a : Bytes t) (p : at + 16 ≤ length l) (h : m < 16) (k : letters ≤ 14)
+    (l t : List ℕ) (at m letters : ℕ) (e : t ≡ aid_bytes) (b : Bytes l) (p : at + 16 ≤ length l) (h : m < 16) (k : letters ≤ 14)
   where
     module _ (low high : ℕ) (u : low ≡ word_at t (288 + 15 - letters)) (v : high ≡ word_at t (288 + 23 - letters)) where
       module _
@@ -112,12 +105,14 @@ module _
           first : take (min 8 (letters + 1)) (drop at l) ≡ take (min 8 (letters + 1)) (drop (16 * m) t)
           first =
               let z = aids_length t e in
+              let a = aids_fit t e in
               let mask = u ∙ ap (λ (s : List ℕ). word_at s (288 + 15 - letters)) e ∙ mask_low letters k in
               same_masked l t at (16 * m) (min 8 (letters + 1)) b a (omega arith) (omega arith) (omega arith) low mask f
 
           last : take (letters + 1 - 8) (drop (at + 8) l) ≡ take (letters + 1 - 8) (drop (16 * m + 8) t)
           last =
               let z = aids_length t e in
+              let a = aids_fit t e in
               let mask = v ∙ ap (λ (s : List ℕ). word_at s (288 + 23 - letters)) e ∙ mask_high letters k in
               same_masked l t (at + 8) (16 * m + 8) (letters + 1 - 8) b a (omega arith) (omega arith) (omega arith) high mask g
 
@@ -206,11 +201,3 @@ module _ (l : List ℕ) (x : Number) (d : Digits l x) (s : SeatAt l x) (p : 32 �
                 d.most,
               ),
         )
-
--- what a caller has of it
-pub told_read :
-    (l : List ℕ) (q : Quick) (e : Event) (n : ℕ) → Told l q → q ≡ Read e n
-    → (Good e ≡ line_of l) × ((n ≡ index_of newline (take line_most l)) × (n ≤ length l))
-told_read l q e n t h =
-    let r = subst (Told l) h t in
-    (sym r.0, (sym r.1, omega (arith, r.1, index_within newline (take line_most l), length-take line_most l)))

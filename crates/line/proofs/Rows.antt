@@ -2,12 +2,13 @@
 -- The argument: each of the sixteen rows has a count of letters that no name has, or is the row of its own message; and the mask of
 -- each count of letters is that of the name with its newline. Both are computed.
 -- Assumes nothing.
-use Rattle.std.proofs.Common.{◌≡◌, ℕ, zero, suc, ◌+◌, ◌-◌, ◌*◌, ◌^◌, ◌<◌, ◌≤◌, min, Bool, true, ◌&&◌, ◌||◌, eqb, ltb, leb, List, [], ◌∷◌, ◌++◌, length, get_or, take, drop, replicate, sym, refl, ap, ◌∙◌, ⊎_elim, append_assoc, arith, drop-drop, ltb-true, eqb-true, leb-true}
+use Rattle.std.proofs.Common.{◌≡◌, ℕ, zero, suc, ◌+◌, ◌-◌, ◌*◌, ◌^◌, ◌<◌, ◌≤◌, min, Bool, true, ◌&&◌, ◌||◌, eqb, ltb, leb, List, [], ◌∷◌, ◌++◌, length, get_or, take, drop, replicate, sym, refl, ap, subst, ◌∙◌, ⊎_elim, append_assoc, arith, drop-drop, ltb-true, eqb-true, leb-true}
 use mir.Facts.{eqb_yes}
 use Rattle.lemmas.specs.Bools.{both, either, T_is}
 use Rattle.lemmas.specs.Ranges.{each_at}
 use Rattle.records.specs.Records.{placed}
 use Rattle.words.specs.Words.{word_at}
+use Rattle.words.specs.Laws.{Bytes, bytes_are}
 use Rattle.names.specs.Names.{name_of, same}
 use Rattle.names.specs.Laws.{same_is}
 use Rattle.line.specs.Grammar.{newline}
@@ -88,3 +89,7 @@ mask_high letters h = eqb_yes (each_at (λ k. eqb (word_at aid_bytes (288 + 23 -
 pub aids_length : (t : List ℕ) → t ≡ aid_bytes → length t ≡ 320
 unfolding aid_bytes
 aids_length t e = ap length e ∙ eqb_yes tt
+
+pub aids_fit : (t : List ℕ) → t ≡ aid_bytes → Bytes t
+unfolding aid_bytes
+aids_fit t e = subst Bytes (sym e) (bytes_are aid_bytes tt)

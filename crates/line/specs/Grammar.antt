@@ -1,10 +1,27 @@
 -- The grammar of a journal's line, as 01 has it under 'Journal lines': seat in decimal, one space, `got` or `sent`, one space,
 -- a message name, newline. The refusals are tried in the order of their numbers.
 -- Assumes nothing.
-use Rattle.std.specs.Prelude.{ℕ, suc, ◌+◌, ◌-◌, ◌*◌, Bool, true, false, cond, not, ◌&&◌, List, [], ◌∷◌, length, take, drop, ◌==◌, nat_le, nat_lt}
+use Rattle.std.specs.Prelude.{ℕ, Result, Ok, Err, suc, ◌+◌, ◌-◌, ◌*◌, Bool, true, false, cond, not, ◌&&◌, List, [], ◌∷◌, length, take, drop, ◌==◌, nat_le, nat_lt}
 use Rattle.names.specs.Names.{message_named, way_named}
-use Rattle.line.specs.declared.Line.{Line}
-use Rattle.line.specs.declared.Line.TheVariants.{Good, Refused}
+use Rattle.records.specs.declared.Event.{Event}
+use Rattle.line.specs.declared.Refusal.{Refusal}
+use Rattle.line.specs.declared.Refusal.TheVariants.{Long, Seat, Way, Name}
+
+-- what a line says: an event, or the number of its refusal
+pub data Line : Type 0 where
+  Good : Event → Line
+  Refused : ℕ → Line
+
+abbrev pub number : Refusal → ℕ
+number Long = 21
+number Seat = 22
+number Way = 23
+number Name = 24
+
+-- what the code answers, in these terms
+abbrev pub told : Result Event Refusal → Line
+told (Ok e) = Good e
+told (Err r) = Refused (number r)
 
 abbrev pub newline : ℕ
 newline = 10

@@ -8,10 +8,8 @@ use Rattle.std.proofs.lemmas.Bool.{eqb-false}
 use Rattle.names.specs.Names.{message_named, way_named}
 use Rattle.names.specs.Laws.{message_only}
 use Rattle.records.specs.declared.Event.{Event}
-use Rattle.line.specs.Grammar.{newline, space, line_most, index_of, has, before, after, well_begun, all_digits, value, is_seat, third_of, second_of, fields_of, line_of}
+use Rattle.line.specs.Grammar.{Line, Good, Refused, newline, space, line_most, index_of, has, before, after, well_begun, all_digits, value, is_seat, third_of, second_of, fields_of, line_of}
 use Rattle.line.specs.Places.{index_take, index_append, index_within}
-use Rattle.line.specs.declared.Line.{Line}
-use Rattle.line.specs.declared.Line.TheVariants.{Good, Refused}
 
 good_test : (t : Bool) (x : Line) (r : ℕ) (e : Event) → cond t x (Refused r) ≡ Good e → t ≡ true
 good_test true x r e h = refl

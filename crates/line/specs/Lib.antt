@@ -6,3 +6,4 @@ pub mod Digits
 pub mod Laws
 pub mod Reads
 pub mod Quick
+pub mod Single

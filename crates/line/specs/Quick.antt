@@ -1,13 +1,11 @@
 -- What the quick way to read a line looks at, and what it owes.
 -- Assumes nothing.
-use Rattle.std.specs.Prelude.{◌≡◌, ℕ, zero, suc, ◌+◌, ◌-◌, ◌*◌, ◌≤◌, true, List, [], ◌∷◌, ◌++◌, length, take, drop, replicate, slice_index_or, slice_set}
+use Rattle.std.specs.Prelude.{◌≡◌, ℕ, zero, suc, ◌+◌, ◌-◌, ◌*◌, ◌≤◌, true, List, [], ◌∷◌, ◌++◌, Option, Some, None, length, take, drop, replicate, slice_index_or, slice_set}
 use Rattle.records.specs.Records.{placed}
 use Rattle.names.specs.Names.{message_names, way_name, name_of}
-use Rattle.line.specs.Grammar.{newline, space, line_most, index_of, all_digits, value, is_seat, line_of}
-use Rattle.line.specs.declared.Line.TheVariants.{Good}
-use Rattle.line.specs.declared.quick.Number.{Number}
-use Rattle.line.specs.declared.quick.Quick.{Quick}
-use Rattle.line.specs.declared.quick.Quick.TheVariants.{Read, Unread}
+use Rattle.line.specs.Grammar.{newline, space, line_most, index_of, all_digits, value, is_seat, Good, line_of}
+use Rattle.line.specs.declared.Number.{Number}
+use Rattle.line.specs.declared.quick.Found.{Found}
 
 -- a byte that is in no name
 abbrev filler : ℕ
@@ -63,6 +61,6 @@ pub record NameAt (l : List ℕ) (at message letters : ℕ) : Type 0 where
   pub stands : drop at l ≡ name_of message ++ newline ∷ drop (at + letters + 1) l
 
 -- what was read is what the line says and where it ends; of a line that was not read nothing is said
-abbrev pub Told : List ℕ → Quick → Type 0
-Told l (Read e n) = (line_of l ≡ Good e) × (index_of newline (take line_most l) ≡ n)
-Told l Unread = Unit {0}
+abbrev pub Told : List ℕ → Option Found → Type 0
+Told l (Some f) = (line_of l ≡ Good f.event) × (index_of newline (take line_most l) ≡ f.size)
+Told l None = Unit {0}

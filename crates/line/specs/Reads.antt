@@ -10,12 +10,10 @@ use Rattle.lemmas.specs.Ranges.{each_at}
 use Rattle.records.specs.declared.Event.{Event}
 use Rattle.names.specs.Names.{message_named, way_named, name_of, way_name}
 use Rattle.names.specs.Laws.{message_own, way_own}
-use Rattle.line.specs.Grammar.{newline, space, line_most, index_of, has, before, all_digits, well_begun, value, is_seat, third_of, second_of, fields_of, line_of}
+use Rattle.line.specs.Grammar.{Line, Good, Refused, newline, space, line_most, index_of, has, before, all_digits, well_begun, value, is_seat, third_of, second_of, fields_of, line_of}
 use Rattle.line.specs.Places.{index_take}
 use Rattle.line.specs.Digits.{digits_free}
 use Rattle.line.specs.Cuts.{free, free_append, index_free, has_free, before_free, after_free}
-use Rattle.line.specs.declared.Line.{Line}
-use Rattle.line.specs.declared.Line.TheVariants.{Good, Refused}
 
 -- the two last fields, and a line without its newline
 abbrev pub last_two : ℕ → ℕ → List ℕ

@@ -1,12 +1,14 @@
 #![tactic(auto)]
-// One line of a journal: where its newline stands, and the event that it says or the number of its refusal.
+// One line of a journal: where its newline stands, and the event that it says or its refusal.
 mod quick;
 
-ghost use Rattle.std.specs.Prelude.{◌≡◌, ◌≤◌, length, take};
-ghost use Rattle.line.specs.Grammar.{index_of, third_of, second_of, fields_of, line_of, line_most, newline};
-ghost use Rattle.line.specs.Quick.{aid_bytes};
-ghost use Rattle.line.specs.Seats.{seat_in, digits_in};
+ghost use Rattle.std.specs.Prelude.{◌≡◌, ◌<◌, ◌≤◌, length, take, IfSome};
+ghost use Rattle.names.specs.Numbers.{way_number};
+ghost use Rattle.line.specs.Grammar.{index_of, third_of, second_of, fields_of, line_of, line_most, newline, told};
+ghost use Rattle.line.specs.Seats.{place_in, seat_in, digits_in};
 
+use names::Way;
+pub use quick::Aids;
 use records::Event;
 
 // A line with its newline.
@@ -14,188 +16,159 @@ pub const LINE_MOST: usize = 26;
 
 const SEAT_MOST: usize = 65535;
 
-const NEWLINE: u8 = 10;
+const NEWLINE: u8 = b'\n';
 
-const SPACE: u8 = 32;
+const SPACE: u8 = b' ';
 
-const ZERO: u8 = 48;
+const ZERO: u8 = b'0';
 
-const NINE: u8 = 57;
-
-pub const REFUSED_LINE_LONG: u8 = 21;
-
-pub const REFUSED_LINE_SEAT: u8 = 22;
-
-pub const REFUSED_LINE_WAY: u8 = 23;
-
-pub const REFUSED_LINE_NAME: u8 = 24;
-
-#[derive(Clone, Copy)]
-pub enum Line {
-    Good(Event),
-    Refused(u8),
+// Why a line says no event.
+#[derive(Clone, Copy, Debug, PartialEq, Eq)]
+pub enum Refusal {
+    // No newline in its first 26 bytes.
+    Long = 21,
+    // It begins with no seat and a space.
+    Seat = 22,
+    // No way and a space follow.
+    Way = 23,
+    // What is left is no message's name.
+    Name = 24,
 }
 
-// A seat's number and how many bytes say it.
+// What digits say, and how many they are.
 #[derive(Clone, Copy)]
-enum Seat {
-    At { number: usize, size: usize },
-    Nothing,
+struct Number {
+    value: usize,
+    size: usize,
 }
 
 // What a line says, and the place of its newline.
 #[derive(Clone, Copy)]
 pub struct NextLine {
-    pub said: Line,
+    pub said: Result<Event, Refusal>,
     pub size: usize,
 }
 
-// What lines are compared with: the caller makes it once for a text.
-pub fn aids() -> [u8; 320]
-    ensures { result ≡ aid_bytes }
-{
-    quick::aids()
-}
-
 // The line that the text begins with. `size` is the smaller of 26 and the text's length where its first 26 bytes have no newline.
-pub fn next(rest: &[u8], aids: &[u8]) -> NextLine
-    requires { aids.now ≡ aid_bytes }
-    ensures said { result.said ≡ line_of rest.now }
+#[tactic(auto, using(crate::proofs::Steps::line_steps))]
+pub fn next(rest: &[u8], aids: &Aids) -> NextLine
+    ensures said { told result.said ≡ line_of rest.now }
     ensures place { result.size ≡ index_of newline (take line_most rest.now) }
     ensures within { result.size ≤ length rest.now }
 {
-    let found = quick::read(rest, aids);
-    let quick::Quick::Read { event, size } = found else {
-        let size = body_size(rest);
+    if let Some(found) = quick::read(rest, aids) {
         return NextLine {
-            said: said(rest, size),
-            size,
+            said: Ok(found.event),
+            size: found.size,
         };
-    };
-    NextLine {
-        said: Line::Good(event),
-        size,
+    }
+    let front = front_of(rest);
+    match place_of(front, NEWLINE) {
+        Some(size) => NextLine {
+            said: fields(&front[..size]),
+            size,
+        },
+        None => NextLine {
+            said: Err(Refusal::Long),
+            size: front.len(),
+        },
     }
 }
 
-// How many bytes of a line stand before its newline; the smaller of 26 and the text's length where none of its first 26 bytes is one.
-fn body_size(rest: &[u8]) -> usize
-    ensures place { result ≡ index_of newline (take line_most rest.now) }
-    ensures within { result ≤ length rest.now }
+// As much of a text as its first line can be.
+fn front_of(rest: &[u8]) -> &[u8]
+    ensures front { result.now ≡ take line_most rest.now }
+    ensures within { length result.now ≤ length rest.now }
 {
-    if rest.len() < LINE_MOST {
-        find(rest, NEWLINE)
-    } else {
-        find(&rest[..LINE_MOST], NEWLINE)
+    match rest.get(..LINE_MOST) {
+        Some(front) => front,
+        None => rest,
     }
-}
-
-// What the line says that the text begins with; `size` is the answer of the function above.
-fn said(rest: &[u8], size: usize) -> Line
-    requires { size ≡ index_of newline (take line_most rest.now) }
-    ensures { result ≡ line_of rest.now }
-{
-    if size < LINE_MOST {
-        if size < rest.len() {
-            return fields(&rest[..size]);
-        }
-    }
-    Line::Refused(REFUSED_LINE_LONG)
 }
 
 // A line without its newline.
-fn fields(body: &[u8]) -> Line
-    ensures { result ≡ fields_of body.now }
+#[tactic(auto, using(crate::proofs::Steps::field_steps))]
+fn fields(body: &[u8]) -> Result<Event, Refusal>
+    ensures { told result ≡ fields_of body.now }
 {
-    let Seat::At { number, size } = first(body) else {
-        return Line::Refused(REFUSED_LINE_SEAT);
+    let Some(Number { value, size }) = first(body) else {
+        return Err(Refusal::Seat);
     };
-    second(number, &body[size + 1..])
+    second(value, &body[size + 1..])
 }
 
 // What stands after the first space.
-fn second(seat: usize, part: &[u8]) -> Line
-    ensures { result ≡ second_of seat part.now }
+fn second(seat: usize, part: &[u8]) -> Result<Event, Refusal>
+    ensures { told result ≡ second_of seat part.now }
 {
-    let at = find(part, SPACE);
-    if at < part.len() {
-        let way = names::way_named(&part[..at]);
-        if 1 < way {
-            return Line::Refused(REFUSED_LINE_WAY);
-        }
-        third(seat, way, &part[at + 1..])
-    } else {
-        Line::Refused(REFUSED_LINE_WAY)
-    }
+    let Some(at) = place_of(part, SPACE) else {
+        return Err(Refusal::Way);
+    };
+    let Some(way) = names::way_named(&part[..at]) else {
+        return Err(Refusal::Way);
+    };
+    third(seat, way, &part[at + 1..])
 }
 
 // What stands after the second.
-fn third(seat: usize, way: u8, part: &[u8]) -> Line
-    ensures { result ≡ third_of seat way part.now }
+#[tactic(auto, unfolding(crate::specs::Grammar::third_of))]
+fn third(seat: usize, way: Way, part: &[u8]) -> Result<Event, Refusal>
+    ensures { told result ≡ third_of seat (way_number way) part.now }
 {
-    let message = names::message_named(part);
-    if message == 0 {
-        Line::Refused(REFUSED_LINE_NAME)
-    } else {
-        Line::Good(Event { seat, way, message })
-    }
+    let Some(message) = names::message_named(part) else {
+        return Err(Refusal::Name);
+    };
+    Ok(Event {
+        seat,
+        way: way.number(),
+        message: message.number(),
+    })
 }
 
-// The seat and the space that a line begins with, found in one walk.
-fn first(body: &[u8]) -> Seat
-    ensures { result ≡ seat_in body.now }
+// The seat that a line begins with, and the place of the space after it, found in one walk.
+#[tactic(auto, using(crate::proofs::Decimal::seat_begins))]
+fn first(body: &[u8]) -> Option<Number>
+    ensures seat { result ≡ seat_in body.now }
+    ensures within { IfSome result (λ x. x.size < length body.now) }
 {
     if body.len() < 2 {
-        return Seat::Nothing;
+        return None;
     }
     if body[0] == SPACE {
-        return Seat::Nothing;
+        return None;
     }
-    if body[0] == ZERO {
-        if body[1] != SPACE {
-            return Seat::Nothing;
-        }
+    if body[0] == ZERO && body[1] != SPACE {
+        return None;
     }
     digits(body)
 }
 
 // The same where no byte is missing before the space and no zero leads.
-fn digits(body: &[u8]) -> Seat
-    ensures { result ≡ digits_in 0 0 body.now }
+#[tactic(auto, using(crate::proofs::Decimal::digits_on))]
+fn digits(body: &[u8]) -> Option<Number>
+    ensures seat { result ≡ digits_in 0 0 body.now }
+    ensures within { IfSome result (λ x. x.size < length body.now) }
 {
-    let mut number: usize = 0;
-    let mut i = 0;
-    while i < body.len() {
-        let digit = body[i];
+    let mut value: usize = 0;
+    for (size, &digit) in body.iter().enumerate() {
         if digit == SPACE {
-            return Seat::At { number, size: i };
+            return Some(Number { value, size });
         }
-        if digit < ZERO {
-            return Seat::Nothing;
+        if !digit.is_ascii_digit() {
+            return None;
         }
-        if NINE < digit {
-            return Seat::Nothing;
+        value = value * 10 + (digit - ZERO) as usize;
+        if SEAT_MOST < value {
+            return None;
         }
-        number = number * 10 + (digit - ZERO) as usize;
-        if SEAT_MOST < number {
-            return Seat::Nothing;
-        }
-        i += 1;
     }
-    Seat::Nothing
+    None
 }
 
-// The first place of b in s; the length of s where it has none.
-fn find(s: &[u8], b: u8) -> usize
-    ensures place { result ≡ index_of b s.now }
-    ensures within { result ≤ length s.now }
+// The first place of b in s.
+fn place_of(s: &[u8], b: u8) -> Option<usize>
+    ensures place { result ≡ place_in b s.now }
+    ensures within { IfSome result (λ i. i < length s.now) }
 {
-    let mut i = 0;
-    while i < s.len() {
-        if s[i] == b {
-            return i;
-        }
-        i += 1;
-    }
-    i
+    s.iter().position(|&x| x == b)
 }

@@ -1,12 +1,13 @@
 // A good line read with no jump that goes now one way, now the other: no processor foresees how many digits a seat has, which way
 // a message went or which name it has. Where the line ends and which message it names are guessed, and then the whole is compared,
 // so that a wrong guess costs time and never gives a wrong event. What is not found here is left to the plain reader.
-ghost use Rattle.std.specs.Prelude.{◌≡◌, ◌+◌, ◌-◌, ◌<◌, ◌≤◌, true, length};
+ghost use Rattle.std.specs.Prelude.{◌≡◌, ◌+◌, ◌-◌, ◌<◌, ◌≤◌, true, length, IfSome};
 ghost use Rattle.records.specs.Records.{placed};
-ghost use Rattle.names.specs.Names.{name_of};
+ghost use Rattle.names.specs.Numbers.{message_number, way_told};
 ghost use Rattle.line.specs.Quick.{rows_to, aid_bytes, Digits, SeatAt, WayAt, NameAt, Told};
 
-use crate::{NEWLINE, SEAT_MOST, SPACE, ZERO};
+use crate::{NEWLINE, Number, SEAT_MOST, SPACE, ZERO};
+use names::{Message, Way};
 use records::Event;
 
 // As many bytes as are looked at from a line's first one, whatever its length.
@@ -31,8 +32,6 @@ const SENT: u64 = 0x746e_6573;
 
 const LETTER_S: u64 = 115;
 
-const NO_WAY: u8 = 2;
-
 // Places in the aids.
 const ROW_SIZE: usize = 16;
 
@@ -50,59 +49,41 @@ const MASKS: usize = 288;
 
 // A line that was found good, with the place of its newline.
 #[derive(Clone, Copy)]
-pub enum Quick {
-    Read { event: Event, size: usize },
-    Unread,
-}
-
-// What digits say, and how many they are.
-#[derive(Clone, Copy)]
-pub struct Number {
-    pub value: usize,
+pub struct Found {
+    pub event: Event,
     pub size: usize,
 }
 
 // What lines are compared with, made once for a text: a row for each message, then which one to guess, then the masks.
-pub fn aids() -> [u8; 320]
-    ensures { result ≡ aid_bytes }
-{
-    let mut t = [255; 320];
-    put_row(&mut t, 1, b"Cancel");
-    put_row(&mut t, 2, b"Complete");
-    put_row(&mut t, 3, b"Close");
-    put_row(&mut t, 4, b"Compensate");
-    put_row(&mut t, 5, b"Failed");
-    put_row(&mut t, 6, b"Exited");
-    put_row(&mut t, 7, b"NotCompleted");
-    put_row(&mut t, 8, b"Exit");
-    put_row(&mut t, 9, b"Completed");
-    put_row(&mut t, 10, b"Fail");
-    put_row(&mut t, 11, b"CannotComplete");
-    put_row(&mut t, 12, b"Canceled");
-    put_row(&mut t, 13, b"Closed");
-    put_row(&mut t, 14, b"Compensated");
-    put(
-        &mut t,
-        GUESSES,
-        b"\x07\x01\0\0\0\0\0\0\0\0\0\0\x03\x0a\0\0\0\x0d\x05\x04\x0c\x02\0\0\0\0\x06\x0b\x08\x09\0\x0e",
-    );
-    put(
-        &mut t,
-        MASKS + ROW_SIZE,
-        b"\0\0\0\0\0\0\0\0\0\0\0\0\0\0\0\0",
-    );
-    t
+#[derive(Drop)]
+pub struct Aids {
+    pub bytes: [u8; 320],
+    ghost made: { bytes ≡ aid_bytes },
+}
+
+impl Aids {
+    pub fn new() -> Aids {
+        let mut bytes = [255; 320];
+        for message in Message::ALL {
+            put_row(&mut bytes, message);
+        }
+        put(
+            &mut bytes,
+            GUESSES,
+            b"\x07\x01\0\0\0\0\0\0\0\0\0\0\x03\x0a\0\0\0\x0d\x05\x04\x0c\x02\0\0\0\0\x06\x0b\x08\x09\0\x0e",
+        );
+        bytes[MASKS + ROW_SIZE..].fill(0);
+        Aids { bytes }
+    }
 }
 
 // A row is a name with its newline, and in its last byte how many letters the name has.
-fn put_row(aids: &mut [u8], message: usize, name: &[u8])
-    requires some { 1 ≤ message }
-    requires known { message ≤ 14 }
-    requires name { name.now ≡ name_of message }
-    requires before { aids.old ≡ rows_to (message - 1) }
-    ensures { aids.new ≡ rows_to message }
+fn put_row(aids: &mut [u8], message: Message)
+    requires { aids.old ≡ rows_to (message_number message - 1) }
+    ensures { aids.new ≡ rows_to (message_number message) }
 {
-    let at = ROW_SIZE * message;
+    let name = message.name();
+    let at = ROW_SIZE * message.number() as usize;
     put(aids, at, name);
     aids[at + name.len()] = NEWLINE;
     aids[at + 15] = name.len() as u8;
@@ -117,41 +98,39 @@ fn put(aids: &mut [u8], at: usize, part: &[u8])
 }
 
 // The line that the text begins with, where it is found good. A guess is only where to look: each byte of the line is compared.
-pub fn read(rest: &[u8], aids: &[u8]) -> Quick
-    requires { aids.now ≡ aid_bytes }
-    ensures { Told rest.now result }
+pub fn read(rest: &[u8], aids: &Aids) -> Option<Found>
+    ensures told { Told rest.now result }
+    ensures within { IfSome result (λ x. x.size ≤ length rest.now) }
 {
     if rest.len() < REACH {
-        return Quick::Unread;
+        return None;
     }
     let end = end_guess(rest);
     let number = digits(rest);
     if !is_seat(rest, number) {
-        return Quick::Unread;
+        return None;
     }
     let size = number.size;
-    let way = way_at(rest, size + 1);
-    if 1 < way {
-        return Quick::Unread;
-    }
+    let way = way_at(rest, size + 1)?.number();
     let at = size + 5 + way as usize;
-    let letters = std::num::wrapping_sub_usize(end, at);
+    let letters = end.wrapping_sub(at);
     if LETTERS_MOST < letters {
-        return Quick::Unread;
+        return None;
     }
     let guess = (letters + SPREAD * rest[end - 3] as usize) % GUESS_COUNT;
-    let message = aids[GUESSES + guess] % ROW_COUNT;
+    // A number, since a guess need be no message's: that it is one is known when its row has been compared.
+    let message = aids.bytes[GUESSES + guess] % ROW_COUNT;
     if !is_name(rest, at, aids, message as usize, letters) {
-        return Quick::Unread;
+        return None;
     }
-    Quick::Read {
+    Some(Found {
         event: Event {
             seat: number.value,
             way,
             message,
         },
         size: end,
-    }
+    })
 }
 
 // Where the newline may stand: the shortest line has it at place 10, the longest at 25.
@@ -160,18 +139,19 @@ fn end_guess(rest: &[u8]) -> usize
     ensures low { 10 ≤ result }
     ensures high { result ≤ 26 }
 {
-    let near = u64::trailing_zeros(newlines(words::u64_at(rest, 10))) as usize / 8;
-    let far = u64::trailing_zeros(newlines(words::u64_at(rest, 18))) as usize / 8;
+    let near = newlines(words::u64_at(rest, 10)).trailing_zeros() as usize / 8;
+    let far = newlines(words::u64_at(rest, 18)).trailing_zeros() as usize / 8;
     10 + near + far * ((near == 8) as usize)
 }
 
 // A bit for each newline of eight bytes; above the lowest there may be others.
 fn newlines(word: u64) -> u64 {
     let x = word ^ NEWLINES;
-    std::num::wrapping_sub_u64(x, ONES) & !x & HIGHS
+    x.wrapping_sub(ONES) & !x & HIGHS
 }
 
-// The digits that a line begins with, five at most.
+// The digits that a line begins with, five at most. There are five turns whatever they are: a loop that is left at the first other byte,
+// as the plain reader's, jumps another way than foreseen at most lines.
 fn digits(rest: &[u8]) -> Number
     requires { 5 ≤ length rest.now }
     ensures { Digits rest.now result }
@@ -180,15 +160,13 @@ fn digits(rest: &[u8]) -> Number
     let mut size: usize = 0;
     let mut all: usize = 0;
     let mut on = true;
-    let mut i: usize = 0;
-    while i < DIGITS_MOST {
-        let low = std::num::wrapping_sub_u8(rest[i], ZERO);
+    for &byte in &rest[..DIGITS_MOST] {
+        let low = byte.wrapping_sub(ZERO);
         on = on & (low <= 9);
         let one = on as usize;
         all = 10 * all + low as usize;
         value = one * all + (1 - one) * value;
         size += one;
-        i += 1;
     }
     Number { value, size }
 }
@@ -200,44 +178,44 @@ fn is_seat(rest: &[u8], x: Number) -> bool
     ensures { result ≡ true → SeatAt rest.now x }
 {
     let size = x.size;
-    if rest[0] == ZERO {
-        if 1 < size {
-            return false;
-        }
+    if rest[0] == ZERO && 1 < size {
+        return false;
     }
     (size != 0) & (x.value <= SEAT_MOST) & (rest[size] == SPACE)
 }
 
-// The way that stands at a place, with a space behind it: 0 got, 1 sent, 2 neither.
-fn way_at(rest: &[u8], at: usize) -> u8
+// The way that stands at a place, with a space behind it.
+fn way_at(rest: &[u8], at: usize) -> Option<Way>
     requires { at + 8 ≤ length rest.now }
-    ensures { WayAt rest.now at result }
+    ensures { WayAt rest.now at (way_told result) }
 {
     let word = words::u64_at(rest, at) % FOUR_BYTES;
-    let sent = word % 256 == LETTER_S;
-    let way = if sent { SENT } else { GOT };
-    let space = at + 3 + sent as usize;
-    if (word != way) | (rest[space] != SPACE) {
-        return NO_WAY;
+    let (way, four) = if word % 256 == LETTER_S {
+        (Way::Sent, SENT)
+    } else {
+        (Way::Got, GOT)
+    };
+    let space = at + 3 + way.number() as usize;
+    if (word != four) | (rest[space] != SPACE) {
+        return None;
     }
-    sent as u8
+    Some(way)
 }
 
 // Whether the name at a place, with its newline, is that of a message.
-fn is_name(rest: &[u8], at: usize, aids: &[u8], message: usize, letters: usize) -> bool
-    requires aids { aids.now ≡ aid_bytes }
+fn is_name(rest: &[u8], at: usize, aids: &Aids, message: usize, letters: usize) -> bool
     requires within { at + 16 ≤ length rest.now }
     requires row { message < 16 }
     requires most { letters ≤ 14 }
     ensures { result ≡ true → NameAt rest.now at message letters }
 {
     let row = ROW_SIZE * message;
-    if aids[row + 15] as usize != letters {
+    if aids.bytes[row + 15] as usize != letters {
         return false;
     }
-    let low = words::u64_at(aids, MASKS + 15 - letters);
-    let high = words::u64_at(aids, MASKS + 23 - letters);
-    let first = words::u64_at(rest, at) & low == words::u64_at(aids, row) & low;
-    let last = words::u64_at(rest, at + 8) & high == words::u64_at(aids, row + 8) & high;
+    let low = words::u64_at(&aids.bytes, MASKS + 15 - letters);
+    let high = words::u64_at(&aids.bytes, MASKS + 23 - letters);
+    let first = words::u64_at(rest, at) & low == words::u64_at(&aids.bytes, row) & low;
+    let last = words::u64_at(rest, at + 8) & high == words::u64_at(&aids.bytes, row + 8) & high;
     first & last
 }

@@ -3,7 +3,7 @@
 ghost use Rattle.std.specs.Prelude.{◌≡◌, length};
 ghost use Rattle.desk.specs.Theorems.{input_most};
 
-// The standard streams, by the number that each has.
+// The standard streams, by the numbers of the C interface, which `io` takes.
 const STDIN: i32 = 0;
 
 const STDOUT: i32 = 1;

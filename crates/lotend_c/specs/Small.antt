@@ -2,9 +2,7 @@
 -- Assumes nothing.
 use Rattle.std.specs.Prelude.{◌≡◌, refl, Bool, true, false, cond, List, [], ◌∷◌, ℕ, suc, ◌+◌, ◌≤◌, length, eqb, ltb}
 use Rattle.std.proofs.Common.{arith, ltb-false}
-use Rattle.line.specs.Grammar.{newline, line_of}
-use Rattle.line.specs.declared.Line.{Line}
-use Rattle.line.specs.declared.Line.TheVariants.{Good, Refused}
+use Rattle.line.specs.Grammar.{newline, Line, Good, Refused, line_of}
 use Rattle.journal.specs.Journal.{longer, lines, has_room, roomed, Outcome, events, refused, on_line, lines_from, outcome, reading_of, reading}
 
 more_lines : (x : ℕ) (ls : List (List ℕ)) → length (longer x ls) ≤ suc (length ls)
@@ -49,3 +47,9 @@ small text area = at (ltb 65536 (length text)) refl where
   at false e =
       let p = by (lines_from area 0 (lines text)) (in_lines area 0 (lines text)) (ltb-false _ _ e) in
       record { line = rw e p.0; count = rw e p.1 }
+
+pub small_line : (text : List ℕ) (area : ℕ) → (reading text area).line ≤ 65536
+small_line text area = (small text area).line
+
+pub small_count : (text : List ℕ) (area : ℕ) → (reading text area).count ≤ 65536
+small_count text area = (small text area).count

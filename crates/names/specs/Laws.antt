@@ -9,6 +9,11 @@ use Rattle.std.proofs.lemmas.Bool.{false≢true}
 use Rattle.std.proofs.Math.Logic.{⊎_elim}
 use mathlib.Core.List.{List, [], ◌∷◌}
 use Rattle.names.specs.Names.{message_names, way_names, name_of, way_name, same, named, look, message_named, way_named}
+use Rattle.names.specs.Numbers.{message_number, way_number}
+use Rattle.names.specs.declared.Message.{Message}
+use Rattle.names.specs.declared.Message.TheVariants.{Cancel, Complete, Close, Compensate, Failed, Exited, NotCompleted, Exit, Completed, Fail, CannotComplete, Canceled, Closed, Compensated}
+use Rattle.names.specs.declared.Way.{Way}
+use Rattle.names.specs.declared.Way.TheVariants.{Got, Sent}
 
 pub same_is : (l m : List ℕ) → same l m ≡ true → l ≡ m
 same_is [] [] h = refl
@@ -71,3 +76,24 @@ way_only l k h n =
     let f = look_name 2 l k n way_names 0 h in
     let z : k - 0 ≡ k = omega arith in
     (omega arith, f.2 ∙ rw z)
+
+-- each message has one of the numbers 1 to 14, and each way 0 or 1
+pub message_range : (m : Message) → (1 ≤ message_number m) × (message_number m ≤ 14)
+message_range Cancel = (omega arith, omega arith)
+message_range Complete = (omega arith, omega arith)
+message_range Close = (omega arith, omega arith)
+message_range Compensate = (omega arith, omega arith)
+message_range Failed = (omega arith, omega arith)
+message_range Exited = (omega arith, omega arith)
+message_range NotCompleted = (omega arith, omega arith)
+message_range Exit = (omega arith, omega arith)
+message_range Completed = (omega arith, omega arith)
+message_range Fail = (omega arith, omega arith)
+message_range CannotComplete = (omega arith, omega arith)
+message_range Canceled = (omega arith, omega arith)
+message_range Closed = (omega arith, omega arith)
+message_range Compensated = (omega arith, omega arith)
+
+pub way_range : (w : Way) → way_number w ≤ 1
+way_range Got = omega arith
+way_range Sent = omega arith

@@ -5,46 +5,64 @@ ghost use Rattle.records.specs.Records.{at16, placed, event_at, event_bytes};
 
 pub const EVENT_SIZE: usize = 4;
 
-#[derive(Clone, Copy)]
+#[derive(Clone, Copy, Debug, PartialEq, Eq)]
 pub struct Event {
     pub seat: usize,
     pub way: u8,
     pub message: u8,
 }
 
+impl From<[u8; EVENT_SIZE]> for Event {
+    ghost from_gives = { λ four e. e ≡ event_at four 0 };
+
+    #[tactic(auto, unfolding(crate::specs::Records::event_at, crate::specs::Records::at16))]
+    fn from(four: [u8; EVENT_SIZE]) -> Event {
+        let [low, high, way, message] = four;
+        Event {
+            seat: usize::from(u16::from_le_bytes([low, high])),
+            way,
+            message,
+        }
+    }
+}
+
+impl From<Event> for [u8; EVENT_SIZE] {
+    ghost from_gives = { λ e four. four ≡ event_bytes e };
+
+    // Of a seat's number the lower 16 bits.
+    fn from(e: Event) -> [u8; EVENT_SIZE] {
+        let [low, high] = u16::to_le_bytes((e.seat % 0x1_0000) as u16);
+        [low, high, e.way, e.message]
+    }
+}
+
 // The 16-bit number at a place, the lower byte first.
+#[tactic(auto, unfolding(crate::specs::Records::at16))]
 pub fn u16_at(bytes: &[u8], at: usize) -> usize
     requires { at + 2 ≤ length bytes.now }
     ensures value { result ≡ at16 bytes.now at }
     ensures most { result < 65536 }
 {
-    let low = bytes[at] as usize;
-    let high = bytes[at + 1] as usize;
-    low + 256 * high
+    usize::from(u16::from_le_bytes([bytes[at], bytes[at + 1]]))
 }
 
 // Four bytes at a place.
-pub fn put_four(area: &mut [u8], at: usize, a: u8, b: u8, c: u8, d: u8)
+#[tactic(auto, unfolding(crate::specs::Records::placed))]
+pub fn put_four(area: &mut [u8], at: usize, four: [u8; 4])
     requires { at + 4 ≤ length area.old }
-    ensures { area.new ≡ placed area.old at (a ∷ b ∷ c ∷ d ∷ []) }
+    ensures { area.new ≡ placed area.old at four }
 {
-    area[at] = a;
-    area[at + 1] = b;
-    area[at + 2] = c;
-    area[at + 3] = d;
+    area[at..at + 4].copy_from_slice(&four);
 }
 
 // Event `n` of a list.
+#[tactic(auto, unfolding(crate::specs::Records::event_at, crate::specs::Records::at16))]
 pub fn read_event(events: &[u8], n: usize) -> Event
     requires { 4 * n + 4 ≤ length events.now }
     ensures { result ≡ event_at events.now n }
 {
     let at = EVENT_SIZE * n;
-    Event {
-        seat: u16_at(events, at),
-        way: events[at + 2],
-        message: events[at + 3],
-    }
+    Event::from([events[at], events[at + 1], events[at + 2], events[at + 3]])
 }
 
 // An event as record `n` of an area.
@@ -52,7 +70,5 @@ pub fn put_event(area: &mut [u8], n: usize, e: Event)
     requires { 4 * n + 4 ≤ length area.old }
     ensures { area.new ≡ placed area.old (4 * n) (event_bytes e) }
 {
-    let low = (e.seat % 256) as u8;
-    let high = (e.seat / 256 % 256) as u8;
-    put_four(area, EVENT_SIZE * n, low, high, e.way, e.message);
+    put_four(area, EVENT_SIZE * n, e.into());
 }

@@ -1,4 +1,3 @@
-pub mod Law
 pub mod Once
 pub mod Places
 pub mod Sound

@@ -6,7 +6,7 @@ use Rattle.std.proofs.Common.{◌≡◌, ℕ, ◌+◌, ◌-◌, ◌*◌, ◌/◌
 use Rattle.lemmas.specs.Orders.{below_or}
 use Rattle.lemmas.specs.Ranges.{each, each_at}
 use Rattle.rules.specs.Place.{place_of}
-use Rattle.rules.specs.Marks.{Ranged, place_counted}
+use Rattle.rules.specs.Marks.{Ranged, unmarked, marked_place, place_counted}
 
 module _ (x role table s : ℕ) (r : role < 256) (t : table < 256) (l : s < 256) (w : (x + 257) % 18446744073709551616 ≡ role + 256 * table + 65536 * s) where
   pub place_in : x % 256 ≤ 1 → x / 256 % 256 ≤ 1 → x < 1048576 → Ranged role table s × (x ≡ (role - 1) + 256 * (table - 1) + 65536 * s)
@@ -36,3 +36,6 @@ place_is x role table s i e =
     (table - 1) (omega arith) (omega arith))
     s (omega arith) (omega arith))
     ∙ sym (place_counted role table s i)
+
+-- what `marked` is proved by
+pub ruleset marking = (place_in, in_place, place_is, unmarked, marked_place)

@@ -1,4 +1,5 @@
 pub mod Numbers
+pub mod Codes
 pub mod Tables
 pub mod Parts
 pub mod Rules

@@ -4,12 +4,16 @@ use Rattle.std.specs.Prelude.{ℕ, Bool, cond, ◌==◌}
 use Rattle.rules.specs.declared.Entry.{Entry}
 use Rattle.rules.specs.declared.Entry.TheVariants.{Invalid, Ignore, Move, Forget, Reply}
 
+-- the ended state that a seat comes to
+abbrev pub end_of : ℕ → Bool → ℕ
+end_of home is_split = cond is_split home 12
+
 -- a seat's last word asked for again, the send that ends the seat, and that send again
-unfoldable pub late_of : ℕ → ℕ → Bool → ℕ → Entry
-late_of home word is_split s = cond is_split (cond (s == home) (Reply word) Ignore) (cond (s == 12) (Reply word) Invalid)
+abbrev pub late_of : ℕ → ℕ → Bool → ℕ → Entry
+late_of home word is_split s = cond (s == end_of home is_split) (Reply word) (cond is_split Ignore Invalid)
 
-unfoldable pub ends_of : ℕ → Bool → Entry
-ends_of home is_split = cond is_split (Forget home) (Forget 12)
+abbrev pub ends_of : ℕ → Bool → Entry
+ends_of home is_split = Forget (end_of home is_split)
 
-unfoldable pub again_of : ℕ → Bool → ℕ → Entry
-again_of home is_split s = cond is_split (cond (s == home) (Move home) Invalid) (cond (s == 12) (Move 12) Invalid)
+abbrev pub again_of : ℕ → Bool → ℕ → Entry
+again_of home is_split s = cond (s == end_of home is_split) (Move s) Invalid

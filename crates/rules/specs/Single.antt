@@ -1,9 +1,12 @@
--- Two results that a contract allows are equal, for each public function: each contract is an equation to a definition.
+-- Two results that a contract allows are equal, for each public function: each contract is an equation to a definition, or to the number of a direction.
 -- Assumes nothing.
-use Rattle.std.specs.Prelude.{◌≡◌, ℕ, Bool}
-use Rattle.std.proofs.Common.{sym, ◌∙◌}
+use Rattle.std.specs.Prelude.{◌≡◌, ℕ, Bool, Option, Some, None, refl}
+use Rattle.std.proofs.Common.{sym, ◌∙◌, arith}
 use Rattle.rules.specs.declared.Entry.{Entry}
 use Rattle.rules.specs.declared.Answer.{Answer}
+use Rattle.rules.specs.declared.Direction.{Direction}
+use Rattle.rules.specs.declared.Direction.TheVariants.{Close, Compensate}
+use Rattle.rules.specs.Codes.{direction_number}
 use Rattle.rules.specs.Rules.{has_state, moves, entry_of, answer_of, legal}
 use Rattle.rules.specs.Outcome.{asked_by}
 use Rattle.rules.specs.Place.{place_of, entry_at}
@@ -11,6 +14,18 @@ use Rattle.rules.specs.Marks.{marked_in, suiting_marks}
 
 pub one_result : {A : Type 0} {x r r' : A} → r ≡ x → r' ≡ x → r ≡ r'
 one_result p q = p ∙ sym q
+
+-- no two directions have one number
+pub same_direction : (r r' : Option Direction) → direction_number r ≡ direction_number r' → r ≡ r'
+same_direction None None e = refl
+same_direction None (Some Close) e = absurd (omega arith)
+same_direction None (Some Compensate) e = absurd (omega arith)
+same_direction (Some Close) None e = absurd (omega arith)
+same_direction (Some Close) (Some Close) e = refl
+same_direction (Some Close) (Some Compensate) e = absurd (omega arith)
+same_direction (Some Compensate) None e = absurd (omega arith)
+same_direction (Some Compensate) (Some Close) e = absurd (omega arith)
+same_direction (Some Compensate) (Some Compensate) e = refl
 
 module _ (role table way m s : ℕ) (e : Entry) where
   pub has_state_single : (r r' : Bool) → r ≡ has_state role table s → r' ≡ has_state role table s → r ≡ r'
@@ -42,3 +57,6 @@ module _ (role table way m s : ℕ) (e : Entry) where
 
   pub direction_asked_single : (r r' : ℕ) → r ≡ asked_by m → r' ≡ asked_by m → r ≡ r'
   direction_asked_single r r' = one_result
+
+  pub direction_asked_one : (r r' : Option Direction) → direction_number r ≡ asked_by m → direction_number r' ≡ asked_by m → r ≡ r'
+  direction_asked_one r r' p q = same_direction r r' (one_result p q)

@@ -4,16 +4,17 @@ pub mod message;
 pub mod state;
 
 ghost use Rattle.std.specs.Prelude.{◌≡◌, ◌<◌, slice_index};
-ghost use Rattle.rules.specs.Parts.{late_of, ends_of, again_of};
+ghost use Rattle.rules.specs.Parts.{end_of, late_of, ends_of, again_of};
 ghost use Rattle.rules.specs.Tables.{coordinator_receives, coordinator_sends, participant_receives, participant_sends};
-ghost use Rattle.rules.specs.Rules.{has_state, entry_of, moves, answer_of, legal};
+ghost use Rattle.rules.specs.Rules.{has_state, entry_of, moves, answer, answer_of, legal};
+ghost use Rattle.rules.specs.Codes.{action_number, direction_number};
 ghost use Rattle.rules.specs.Outcome.{asked_by};
 ghost use Rattle.rules.specs.Place.{place_of, entry_at};
 ghost use Rattle.rules.specs.Marks.{marked_in, suiting_marks};
 ghost use Rattle.rules.specs.Rows.{row_of, beyond_rows, moved_marks, legal_rows};
 
 // What a table says of a state and a message.
-#[derive(Clone, Copy)]
+#[derive(Clone, Copy, Debug, PartialEq, Eq)]
 pub enum Entry {
     Invalid,
     Ignore,
@@ -22,8 +23,34 @@ pub enum Entry {
     Reply(u8),
 }
 
-// An answer in the outline's numbers.
-#[derive(Clone, Copy)]
+// What else a seat does with an event.
+#[derive(Clone, Copy, Debug, PartialEq, Eq)]
+pub enum Action {
+    None = 0,
+    Ignore = 1,
+    Reply = 2,
+    Forget = 3,
+}
+
+// Why an event is refused.
+#[derive(Clone, Copy, Debug, PartialEq, Eq)]
+pub enum Refusal {
+    NoSeat = 11,
+    Event = 12,
+    Way = 13,
+    InvalidState = 14,
+    Outcome = 15,
+}
+
+// An outcome of an atomic activity.
+#[derive(Clone, Copy, Debug, PartialEq, Eq)]
+pub enum Direction {
+    Close = 1,
+    Compensate = 2,
+}
+
+// An answer in the outline's numbers: the four bytes that C gets. An answer is read from any bytes, so its fields are numbers.
+#[derive(Clone, Copy, Debug, PartialEq, Eq)]
 pub struct Answer {
     pub refusal: u8,
     pub state: u8,
@@ -31,31 +58,26 @@ pub struct Answer {
     pub reply: u8,
 }
 
+// An answer's refusal where there is none.
+pub const GOOD: u8 = 0;
+
+// An activity's direction where it has none. A book's byte may be any, so it is a number.
+pub const DIRECTION_NONE: u8 = 0;
+
+// A role may be any byte of a book, and `entry_at` answers for each: so these are numbers.
 pub const COORDINATOR: u8 = 1;
 
 pub const PARTICIPANT: u8 = 2;
 
+// A table may be any byte of a book, and `entry_at` answers for each: so these are numbers.
 pub const PLAIN: u8 = 1;
 
 pub const SPLIT: u8 = 2;
 
+// A way may be any byte of an event, and `entry_at` answers for each: so these are numbers.
 pub const RECEIVED: u8 = 0;
 
 pub const SENT: u8 = 1;
-
-pub const ACTION_NONE: u8 = 0;
-
-pub const ACTION_IGNORE: u8 = 1;
-
-pub const ACTION_REPLY: u8 = 2;
-
-pub const ACTION_FORGET: u8 = 3;
-
-pub const DIRECTION_NONE: u8 = 0;
-
-pub const DIRECTION_CLOSE: u8 = 1;
-
-pub const DIRECTION_COMPENSATE: u8 = 2;
 
 // A bit each (see `marked`): the states of a role under a table, and those of them that suit a direction of an atomic activity.
 pub const STATES: u64 = 0xfff6_1ff6_fffe_1ffe;
@@ -72,26 +94,23 @@ const SPREAD: u64 = 0x20_1001;
 // The first role and the first table, as they stand in that number.
 const FIRSTS: u64 = 257;
 
-pub const GOOD: u8 = 0;
+// The ended state that a seat comes to: `home` in the split table.
+fn end(split: bool, home: u8) -> u8
+    ensures { result ≡ end_of home split }
+{
+    if split { home } else { state::ENDED }
+}
 
-pub const INVALID_STATE: u8 = 14;
-
-// An ended seat's last word again, where the state tells that it was the last: `home` in the split table.
+// An ended seat's last word again, where the state tells that it was the last.
 fn late(split: bool, at: u8, home: u8, word: u8) -> Entry
     ensures { result ≡ late_of home word split at }
 {
-    if split {
-        if at == home {
-            Entry::Reply(word)
-        } else {
-            Entry::Ignore
-        }
+    if at == end(split, home) {
+        Entry::Reply(word)
+    } else if split {
+        Entry::Ignore
     } else {
-        if at == state::ENDED {
-            Entry::Reply(word)
-        } else {
-            Entry::Invalid
-        }
+        Entry::Invalid
     }
 }
 
@@ -99,32 +118,22 @@ fn late(split: bool, at: u8, home: u8, word: u8) -> Entry
 fn ends(split: bool, home: u8) -> Entry
     ensures { result ≡ ends_of home split }
 {
-    if split {
-        Entry::Forget(home)
-    } else {
-        Entry::Forget(state::ENDED)
-    }
+    Entry::Forget(end(split, home))
 }
 
 // The same send again.
 fn again(split: bool, at: u8, home: u8) -> Entry
     ensures { result ≡ again_of home split at }
 {
-    if split {
-        if at == home {
-            Entry::Move(home)
-        } else {
-            Entry::Invalid
-        }
+    if at == end(split, home) {
+        Entry::Move(at)
     } else {
-        if at == state::ENDED {
-            Entry::Move(state::ENDED)
-        } else {
-            Entry::Invalid
-        }
+        Entry::Invalid
     }
 }
 
+// Matches on message numbers and state ranges, for any message. The table is one bit of a place, so the four rules are told it by a `bool`.
+#[tactic(auto, unfolding(crate::specs::Tables::coordinator_receives))]
 fn coordinator_receives(split: bool, m: u8, s: u8) -> Entry
     requires { s < 16 }
     ensures { result ≡ coordinator_receives split m s }
@@ -181,6 +190,7 @@ fn coordinator_receives(split: bool, m: u8, s: u8) -> Entry
     }
 }
 
+#[tactic(auto, unfolding(crate::specs::Tables::coordinator_sends))]
 fn coordinator_sends(split: bool, m: u8, s: u8) -> Entry
     requires { s < 16 }
     ensures { result ≡ coordinator_sends split m s }
@@ -224,6 +234,7 @@ fn coordinator_sends(split: bool, m: u8, s: u8) -> Entry
     }
 }
 
+#[tactic(auto, unfolding(crate::specs::Tables::participant_receives))]
 fn participant_receives(split: bool, m: u8, s: u8) -> Entry
     requires { s < 16 }
     ensures { result ≡ participant_receives split m s }
@@ -299,6 +310,7 @@ fn participant_receives(split: bool, m: u8, s: u8) -> Entry
     }
 }
 
+#[tactic(auto, unfolding(crate::specs::Tables::participant_sends))]
 fn participant_sends(split: bool, m: u8, s: u8) -> Entry
     requires { s < 16 }
     ensures { result ≡ participant_sends split m s }
@@ -348,6 +360,8 @@ fn participant_sends(split: bool, m: u8, s: u8) -> Entry
 
 // Whether a role, a table and a state have their bit among 64 marks: bit 32 role + 16 table + state, counted from the first role and
 // table. The three are looked at as one number, for a walk over seats has no time for three.
+// Here and below they are three arguments: a seat has them beside its activity, so a struct of three would be made for the call alone.
+#[tactic(auto, using(crate::proofs::Places::marking))]
 pub fn marked(marks: u64, role: u8, table: u8, s: u8) -> bool
     ensures { result ≡ marked_in marks role table s }
 {
@@ -361,20 +375,23 @@ pub fn marked(marks: u64, role: u8, table: u8, s: u8) -> bool
 }
 
 // Whether a role has a state under a table.
+#[tactic(auto, using(crate::specs::Marks::states_marked))]
 pub fn has_state(role: u8, table: u8, s: u8) -> bool
     ensures { result ≡ has_state role table s }
 {
     marked(STATES, role, table, s)
 }
 
-// The states that a seat of an atomic activity with that direction may have.
+// The states that a seat of an atomic activity with that direction may have. A book's direction may be any byte, so it is a number here.
 pub fn suiting(direction: u8) -> u64
     ensures { result ≡ suiting_marks direction }
 {
-    match direction {
-        DIRECTION_CLOSE => STATES_TO_CLOSE,
-        DIRECTION_COMPENSATE => STATES_TO_COMPENSATE,
-        _ => STATES_UNDIRECTED,
+    if direction == Direction::Close as u8 {
+        STATES_TO_CLOSE
+    } else if direction == Direction::Compensate as u8 {
+        STATES_TO_COMPENSATE
+    } else {
+        STATES_UNDIRECTED
     }
 }
 
@@ -385,8 +402,7 @@ pub fn place(role: u8, table: u8, s: u8) -> u64
     (32 * (role as u64) + 16 * (table as u64) + s as u64 + 16) % 64
 }
 
-// A message that goes some way has one of 32 rows, if it has any. They are counted from the message `CANCELED`, so that the first and the last
-// have marks, and the match that finds them needs no test of the row.
+// A message that goes some way has one of 32 rows, if it has any. They are counted from the message `CANCELED`.
 fn row(way: u8, m: u8) -> u64
     ensures { result ≡ row_of way m }
 {
@@ -400,18 +416,22 @@ fn beyond(way: u8, m: u8) -> u64
     (way / 2 + m / 16) as u64
 }
 
-// The rows of the messages that a role moves.
+// The rows of the messages that a role moves, and none for 0.
+const MOVED: [u64; 3] = [0, 0x55aa_a815, 0xaa55_542a];
+
+// The same for any role. A match on the two roles would be a jump that no processor foresees.
 fn moved_marks(role: u8) -> u64
     ensures { result ≡ moved_marks role }
 {
-    match role {
-        COORDINATOR => 0x55aa_a815,
-        PARTICIPANT => 0xaa55_542a,
-        _ => 0,
+    if role <= PARTICIPANT {
+        MOVED[role as usize]
+    } else {
+        0
     }
 }
 
 // Whether a role moves a message that way.
+#[tactic(auto, using(crate::specs::Rows::moved_marked))]
 pub fn moves_message(role: u8, way: u8, m: u8) -> bool
     ensures { result ≡ moves role way m }
 {
@@ -419,50 +439,51 @@ pub fn moves_message(role: u8, way: u8, m: u8) -> bool
 }
 
 // The places at which a row's message is legal.
-fn legal_marks(row: u64) -> u64
-    ensures { result ≡ slice_index legal_rows row }
-{
-    match row {
-        0 => 0xf00c_f00c,
-        1 => 0x2004_1004_0000_0000,
-        2 => 0xf040_f040,
-        3 => 0x4040_1040_0000_0000,
-        4 => 0xf080_f080,
-        5 => 0x8080_1080_0000_0000,
-        10 => 0xfff6_1ff6_0000_0000,
-        11 => 0x1e_001e,
-        12 => 0xfff6_1ff6_0000_0000,
-        13 => 0x12_0012,
-        14 => 0xf060_1060_0000_0000,
-        15 => 0x60_0060,
-        16 => 0xf2a0_12a0_0000_0000,
-        17 => 0xa0_00a0,
-        18 => 0xf300_f300_0000_0000,
-        19 => 0x2300_1300,
-        20 => 0xf800_f800_0000_0000,
-        21 => 0x4800_1800,
-        22 => 0xf400_f400_0000_0000,
-        23 => 0x8400_1400,
-        24 => 0xf81e_181e,
-        25 => 0x812_0812_0000_0000,
-        26 => 0xf2f8_f2f8,
-        27 => 0x30_0030_0000_0000,
-        28 => 0xf39e_139e,
-        29 => 0x396_0396_0000_0000,
-        30 => 0xf41e_141e,
-        31 => 0x412_0412_0000_0000,
-        _ => 0,
-    }
-}
+const LEGAL: [u64; 32] = [
+    0xf00c_f00c,
+    0x2004_1004_0000_0000,
+    0xf040_f040,
+    0x4040_1040_0000_0000,
+    0xf080_f080,
+    0x8080_1080_0000_0000,
+    0,
+    0,
+    0,
+    0,
+    0xfff6_1ff6_0000_0000,
+    0x1e_001e,
+    0xfff6_1ff6_0000_0000,
+    0x12_0012,
+    0xf060_1060_0000_0000,
+    0x60_0060,
+    0xf2a0_12a0_0000_0000,
+    0xa0_00a0,
+    0xf300_f300_0000_0000,
+    0x2300_1300,
+    0xf800_f800_0000_0000,
+    0x4800_1800,
+    0xf400_f400_0000_0000,
+    0x8400_1400,
+    0xf81e_181e,
+    0x812_0812_0000_0000,
+    0xf2f8_f2f8,
+    0x30_0030_0000_0000,
+    0xf39e_139e,
+    0x396_0396_0000_0000,
+    0xf41e_141e,
+    0x412_0412_0000_0000,
+];
 
 // Whether the tables' lines have the message at a place, be it a state's or not.
+#[tactic(auto, using(crate::specs::Rows::legal_marked))]
 pub fn is_listed(place: u64, way: u8, m: u8) -> bool
     ensures { result ≡ legal (entry_at place way m) }
 {
-    beyond(way, m) < (legal_marks(row(way, m)) >> (place % 64)) % 2
+    beyond(way, m) < (LEGAL[row(way, m) as usize] >> (place % 64)) % 2
 }
 
 // What the tables' lines say at a place, be it a state's or not.
+#[tactic(auto, unfolding(crate::specs::Place::entry_at, crate::specs::Rules::line_of))]
 pub fn placed_entry(place: u64, way: u8, m: u8) -> Entry
     ensures { result ≡ entry_at place way m }
 {
@@ -484,6 +505,7 @@ pub fn placed_entry(place: u64, way: u8, m: u8) -> Entry
 }
 
 // What the tables say, for any role, table, way, message and state.
+#[tactic(auto, using(crate::specs::Place::place_entry), unfolding(crate::specs::Rules::entry_of))]
 pub fn entry_at(role: u8, table: u8, way: u8, m: u8, s: u8) -> Entry
     ensures { result ≡ entry_of role table way m s }
 {
@@ -493,49 +515,50 @@ pub fn entry_at(role: u8, table: u8, way: u8, m: u8, s: u8) -> Entry
     placed_entry(place(role, table, s), way, m)
 }
 
-// An entry in the outline's numbers, at a seat in state `s`.
-pub fn answer_of(e: Entry, s: u8) -> Answer
-    ensures { result ≡ answer_of e s }
-{
-    match e {
-        Entry::Invalid => Answer {
-            refusal: INVALID_STATE,
-            state: s,
-            action: ACTION_NONE,
-            reply: 0,
-        },
-        Entry::Ignore => Answer {
-            refusal: GOOD,
-            state: s,
-            action: ACTION_IGNORE,
-            reply: 0,
-        },
-        Entry::Move(next) => Answer {
-            refusal: GOOD,
-            state: next,
-            action: ACTION_NONE,
-            reply: 0,
-        },
-        Entry::Forget(next) => Answer {
-            refusal: GOOD,
-            state: next,
-            action: ACTION_FORGET,
-            reply: 0,
-        },
-        Entry::Reply(m) => Answer {
-            refusal: GOOD,
-            state: s,
-            action: ACTION_REPLY,
-            reply: m,
-        },
+impl Entry {
+    // An entry in the outline's numbers, at a seat in state `s`.
+    pub fn answer(self, s: u8) -> Answer
+        ensures { result ≡ answer_of self s }
+    {
+        match self {
+            Entry::Invalid => Answer {
+                refusal: Refusal::InvalidState as u8,
+                state: s,
+                action: Action::None as u8,
+                reply: 0,
+            },
+            Entry::Ignore => done(s, Action::Ignore, 0),
+            Entry::Move(next) => done(next, Action::None, 0),
+            Entry::Forget(next) => done(next, Action::Forget, 0),
+            Entry::Reply(m) => done(s, Action::Reply, m),
+        }
     }
 }
 
-// The direction that a coordinator's message asks of an atomic activity, or 0: a sum and not a jump.
-pub fn direction_asked(m: u8) -> u8
-    ensures { result ≡ asked_by m }
+// The answer to an event that is not refused.
+fn done(state: u8, action: Action, reply: u8) -> Answer
+    ensures { result ≡ answer 0 state (action_number action) reply }
 {
-    let close = DIRECTION_CLOSE * ((m == message::CLOSE) as u8);
-    let compensate = DIRECTION_COMPENSATE * ((m == message::COMPENSATE) as u8);
-    close + compensate
+    Answer {
+        refusal: GOOD,
+        state,
+        action: action as u8,
+        reply,
+    }
+}
+
+// The direction that a coordinator's message asks of an atomic activity.
+// No processor foresees which of two it is: one test tells them from none, where a match of three arms would be two jumps.
+#[tactic(auto, unfolding(crate::specs::Outcome::asked_by))]
+pub fn direction_asked(m: u8) -> Option<Direction>
+    ensures { direction_number result ≡ asked_by m }
+{
+    if (m == message::CLOSE) | (m == message::COMPENSATE) {
+        return Some(if m == message::CLOSE {
+            Direction::Close
+        } else {
+            Direction::Compensate
+        });
+    }
+    None
 }

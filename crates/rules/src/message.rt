@@ -1,4 +1,5 @@
 // The messages' numbers. A coordinator sends the first seven and a participant the others.
+// An event's message may be any byte, and `entry_at` answers for each: so these are numbers.
 pub const CANCEL: u8 = 1;
 
 pub const COMPLETE: u8 = 2;

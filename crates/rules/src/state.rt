@@ -1,4 +1,5 @@
 // The states' numbers. The last three are the split table's, and mean one thing at a coordinator, another at a participant.
+// A seat's state may be any byte, and `entry_at` answers for each: so these are numbers.
 pub const ACTIVE: u8 = 1;
 
 pub const CANCELING: u8 = 2;

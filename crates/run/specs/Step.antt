@@ -26,10 +26,9 @@ ruled x way m =
     (cond (not (moves x.role way m)) (refused 13 x.state)
     (answer_of (entry_of x.role x.table way m x.state) x.state))
 
--- the number of an event that the tables do not list, as the code finds it: 12, one more where way and message are known, and one
--- more where the role moves the message that way
+-- the number of an event that the tables do not list
 unfoldable pub unlisted_number : ℕ → ℕ → ℕ → ℕ
-unlisted_number role way m = 12 + cond (known way m) 1 0 + cond (moves role way m) 1 0
+unlisted_number role way m = cond (not (known way m)) 12 (cond (not (moves role way m)) 13 14)
 
 -- the direction that an event asks for, or 0: a Close or Compensate sent at a coordinator seat ..
 unfoldable pub asked : ℕ → ℕ → ℕ → ℕ

@@ -2,117 +2,149 @@
 // One event, and a run over an event list.
 ghost use Rattle.std.specs.Prelude.{◌≡◌, ◌+◌, ◌*◌, ◌≤◌, ◌<◌, length};
 ghost use Rattle.records.specs.Records.{placed, first_events};
+ghost use Rattle.rules.specs.Codes.{refusal_number, direction_number};
 ghost use Rattle.book.specs.Layout.{activity_count, seat_count, activity_of, seat_of, moved, Shaped};
 ghost use Rattle.book.specs.Book.{book_refusal};
+ghost use Rattle.run.specs.declared.Refusal.TheVariants.{Book};
 ghost use Rattle.run.specs.Step.{refused, known, unlisted_number, wanted, clashes, turned, answer_to, book_after, answer_bytes, answer_at};
 ghost use Rattle.run.specs.Run.{after, filled, run_refusal, run_book, run_answers};
+ghost use Rattle.run.specs.Codes.{number, number_of};
 
-use book::Activity;
+use book::{Activity, Book};
 use records::Event;
-use rules::Answer;
+use rules::{Action, Answer, Direction};
+
+// Why a run is refused: what is wrong with its book, or with its list or its area.
+#[derive(Clone, Copy, Debug, PartialEq, Eq)]
+pub enum Refusal {
+    Book(book::Refusal),
+    EventList,
+    AnswerArea,
+}
+
+impl Refusal {
+    // The number that says a refusal.
+    pub fn number(self) -> u8
+        ensures { result ≡ number self }
+    {
+        match self {
+            Refusal::Book(refusal) => refusal as u8,
+            Refusal::EventList => 6,
+            Refusal::AnswerArea => 7,
+        }
+    }
+}
+
+impl From<book::Refusal> for Refusal {
+    ghost from_gives = { λ r e. e ≡ Book r };
+
+    fn from(refusal: book::Refusal) -> Refusal {
+        Refusal::Book(refusal)
+    }
+}
 
 pub const EVENTS_MOST: usize = 4096;
 
 pub const ANSWER_SIZE: usize = 4;
 
-pub const REFUSED_EVENT_LIST: u8 = 6;
-
-pub const REFUSED_ANSWER_AREA: u8 = 7;
-
-pub const REFUSED_NO_SEAT: u8 = 11;
-
-pub const REFUSED_EVENT: u8 = 12;
-
-pub const REFUSED_WAY: u8 = 13;
-
-pub const REFUSED_OUTCOME: u8 = 15;
-
-fn refuse(number: u8, state: u8) -> Answer
-    ensures { result ≡ refused number state }
+fn refuse(refusal: rules::Refusal, state: u8) -> Answer
+    ensures { result ≡ refused (refusal_number refusal) state }
 {
     Answer {
-        refusal: number,
-        state: state,
-        action: 0,
+        refusal: refusal as u8,
+        state,
+        action: Action::None as u8,
         reply: 0,
     }
 }
 
 // Whether a way and a message are the outline's.
+#[tactic(auto, unfolding(crate::specs::Step::known))]
 fn is_known(way: u8, m: u8) -> bool
     ensures { result ≡ known way m }
 {
     (way <= rules::SENT) & (rules::message::CANCEL <= m) & (m <= rules::message::COMPENSATED)
 }
 
-// 12, 13 or 14, for an event that the tables do not list. Which of them it is no processor foresees; they follow each other, so it is
-// a sum and not a jump.
-fn unlisted(role: u8, way: u8, m: u8) -> u8
-    ensures { result ≡ unlisted_number role way m }
+// Why an event is refused that the tables do not list. Which test fails no processor foresees, so how many pass is a sum and no jump.
+#[tactic(auto, using(crate::proofs::Ends::moves_known), unfolding(crate::specs::Step::unlisted_number))]
+fn unlisted(role: u8, way: u8, m: u8) -> rules::Refusal
+    ensures { refusal_number result ≡ unlisted_number role way m }
 {
-    REFUSED_EVENT + is_known(way, m) as u8 + rules::moves_message(role, way, m) as u8
+    match is_known(way, m) as u8 + rules::moves_message(role, way, m) as u8 {
+        0 => rules::Refusal::Event,
+        1 => rules::Refusal::Way,
+        _ => rules::Refusal::InvalidState,
+    }
 }
 
-// The direction that an event asks of its activity, or 0: only an atomic one has any.
-fn want(y: Activity, role: u8, way: u8, m: u8) -> u8
-    ensures { result ≡ wanted y.kind role way m }
+// The direction that an event asks of its activity: only an atomic one has any.
+#[tactic(auto, unfolding(crate::specs::Step::wanted, crate::specs::Step::asked))]
+fn want(y: Activity, role: u8, way: u8, m: u8) -> Option<Direction>
+    ensures { direction_number result ≡ wanted y.kind role way m }
 {
     if (y.kind == book::ATOMIC) & (way == rules::SENT) & (role == rules::COORDINATOR) {
         return rules::direction_asked(m);
     }
-    rules::DIRECTION_NONE
+    None
 }
 
 // Whether the activity has one direction and the other is asked for.
-fn clash(direction: u8, want: u8) -> bool
-    requires { (direction ≤ 2) × (want ≤ 2) }
-    ensures { result ≡ clashes direction want }
+#[tactic(auto, unfolding(crate::specs::Step::clashes))]
+fn clash(direction: u8, want: Option<Direction>) -> bool
+    ensures { result ≡ clashes direction (direction_number want) }
 {
-    direction + want == rules::DIRECTION_CLOSE + rules::DIRECTION_COMPENSATE
+    match want {
+        None => false,
+        Some(asked) => (direction != rules::DIRECTION_NONE) & (direction != asked as u8),
+    }
 }
 
 // The seat's state is stored, and the direction that its activity gets.
-fn turn(book: &mut [u8], n: usize, k: usize, state: u8, direction: u8)
+#[tactic(auto, using(book::specs::Lens::moved_kept), unfolding(crate::specs::Step::turned))]
+fn turn(book: &mut [u8], n: usize, k: usize, state: u8, direction: Option<Direction>)
     requires shaped { Shaped book.old }
     requires n_bound { n < seat_count book.old }
     requires k_value { (k ≡ (seat_of book.old n).activity) × (k < activity_count book.old) }
-    ensures { book.new ≡ moved book.old n state (turned (activity_of book.old k).direction direction) }
+    ensures { book.new ≡ moved book.old n state (turned (activity_of book.old k).direction (direction_number direction)) }
 {
-    if direction == rules::DIRECTION_NONE {
-        book::put_state(book, n, state);
-    } else {
-        book::put_outcome(book, n, k, state, direction);
+    match direction {
+        None => book::put_state(book, n, state),
+        Some(direction) => book::put_outcome(book, n, k, state, direction as u8),
     }
 }
 
 // One event.
+#[tactic(auto, using(crate::proofs::Ends::ends))]
 fn step(book: &mut [u8], e: Event) -> Answer
     requires { book_refusal book.old ≡ 0 }
     ensures answer { result ≡ answer_to book.old e }
     ensures after { book.new ≡ book_after book.old e }
 {
+    let view = Book::of(book);
     let n = e.seat;
-    if book::seat_count(book) <= n {
-        return refuse(REFUSED_NO_SEAT, 0);
+    if view.seat_count() <= n {
+        return refuse(rules::Refusal::NoSeat, 0);
     }
-    let x = book::read_seat(book, n);
+    let x = view.seat(n);
     let place = rules::place(x.role, x.table, x.state);
     if !rules::is_listed(place, e.way, e.message) {
         return refuse(unlisted(x.role, e.way, e.message), x.state);
     }
     let k = x.activity;
-    let y = book::read_activity(book, k);
+    let y = view.activity(k);
     let asks = want(y, x.role, e.way, e.message);
     if clash(y.direction, asks) {
-        return refuse(REFUSED_OUTCOME, x.state);
+        return refuse(rules::Refusal::Outcome, x.state);
     }
     let entry = rules::placed_entry(place, e.way, e.message);
-    let q = rules::answer_of(entry, x.state);
+    let q = entry.answer(x.state);
     turn(book, n, k, q.state, asks);
     q
 }
 
-// Answer `n` of an area.
+// Answer `n` of an area. Its bytes are named here and in `put_answer`: a `From` of four bytes would have these two calls alone.
+#[tactic(auto, unfolding(crate::specs::Step::answer_at))]
 pub fn read_answer(answers: &[u8], n: usize) -> Answer
     requires { 4 * n + 4 ≤ length answers.now }
     ensures { result ≡ answer_at answers.now n }
@@ -130,44 +162,45 @@ fn put_answer(area: &mut [u8], n: usize, a: Answer)
     requires { 4 * n + 4 ≤ length area.old }
     ensures { area.new ≡ placed area.old (4 * n) (answer_bytes a) }
 {
-    records::put_four(area, ANSWER_SIZE * n, a.refusal, a.state, a.action, a.reply);
+    records::put_four(
+        area,
+        ANSWER_SIZE * n,
+        [a.refusal, a.state, a.action, a.reply],
+    );
 }
 
 // The first `count` events of a list, at a good book.
+#[tactic(auto, using(crate::proofs::Turns::still_good, crate::proofs::Turns::turn_book, crate::proofs::Turns::turn_area))]
 fn work(book: &mut [u8], events: &[u8], area: &mut [u8], count: usize)
     requires book_value { book_refusal book.old ≡ 0 }
     requires count_in_bounds { (4 * count ≤ length events.now) × (4 * count ≤ length area.old) }
     ensures book { book.new ≡ after book.old (first_events events.now count) }
     ensures area { area.new ≡ filled book.old events.now area.old count }
 {
-    let mut i: usize = 0;
-    while i < count {
+    for i in 0..count {
         let a = step(book, records::read_event(events, i));
         put_answer(area, i, a);
-        i += 1;
     }
 }
 
-// Works an event list: the book is moved, and each event's answer stands in the area. Returns the refusal, or 0.
+// Works an event list: the book is moved, and each event's answer stands in the area.
 #[tactic(auto, unfolding(crate::specs::Run::run_refusal, crate::specs::Run::run_book, crate::specs::Run::run_answers))]
-pub fn run(book: &mut [u8], events: &[u8], area: &mut [u8]) -> u8
-    ensures result { result ≡ run_refusal book.old events.now area.old }
+pub fn run(book: &mut [u8], events: &[u8], area: &mut [u8]) -> Result<(), Refusal>
+    ensures result { number_of result ≡ run_refusal book.old events.now area.old }
     ensures book { book.new ≡ run_book book.old events.now area.old }
     ensures area { area.new ≡ run_answers book.old events.now area.old }
 {
-    let bad = book::check(book);
-    if bad != rules::GOOD {
-        return bad;
-    }
+    book::check(book)?;
+    let count = events.len() / records::EVENT_SIZE;
     if events.len() % records::EVENT_SIZE != 0 {
-        return REFUSED_EVENT_LIST;
+        return Err(Refusal::EventList);
     }
-    if EVENTS_MOST < events.len() / records::EVENT_SIZE {
-        return REFUSED_EVENT_LIST;
+    if EVENTS_MOST < count {
+        return Err(Refusal::EventList);
     }
     if area.len() < events.len() {
-        return REFUSED_ANSWER_AREA;
+        return Err(Refusal::AnswerArea);
     }
-    work(book, events, area, events.len() / records::EVENT_SIZE);
-    rules::GOOD
+    work(book, events, area, count);
+    Ok(())
 }

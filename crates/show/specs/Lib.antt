@@ -1,2 +1,3 @@
 pub mod Adler
 pub mod Shown
+pub mod Cases

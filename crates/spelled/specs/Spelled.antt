@@ -10,10 +10,8 @@ use Rattle.lemmas.specs.Bools.{both}
 use Rattle.records.specs.declared.Event.{Event}
 use Rattle.names.specs.Names.{message_named, way_named, name_of, way_name}
 use Rattle.names.specs.Laws.{message_only, way_only}
-use Rattle.line.specs.Grammar.{newline, space, line_most, index_of, has, before, after, value, is_seat, third_of, second_of, fields_of, line_of}
+use Rattle.line.specs.Grammar.{newline, space, line_most, index_of, has, before, after, value, is_seat, third_of, second_of, fields_of, line_of, Line, Good, Refused}
 use Rattle.line.specs.Laws.{Sound, Judged, line_judged, line_newline}
-use Rattle.line.specs.declared.Line.{Line}
-use Rattle.line.specs.declared.Line.TheVariants.{Good, Refused}
 use Rattle.text.specs.Text.{decimal}
 use Rattle.text.specs.Laws.{decimal_most}
 use Rattle.line.specs.Cuts.{free, after_free, cut, cut_front}

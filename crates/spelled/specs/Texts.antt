@@ -6,10 +6,8 @@ use Rattle.std.specs.Prelude.{ℕ, suc, ◌+◌, ◌*◌, ◌≤◌, ◌<◌, �
 use Rattle.std.proofs.Common.{arith, sym, ◌∙◌, ap, length-append, take-append-drop, le-ltb, ltb-false}
 use Rattle.records.specs.Records.{flat}
 use Rattle.records.specs.declared.Event.{Event}
-use Rattle.line.specs.Grammar.{newline, index_of, line_of}
+use Rattle.line.specs.Grammar.{newline, index_of, line_of, Line, Good, Refused}
 use Rattle.line.specs.Laws.{Sound}
-use Rattle.line.specs.declared.Line.{Line}
-use Rattle.line.specs.declared.Line.TheVariants.{Good, Refused}
 use Rattle.journal.specs.Journal.{lines, has_room, roomed, Outcome, events, refused, infront, on_line, lines_from, outcome}
 use Rattle.journal.specs.Laws.{roomed_good, has_room_lem, room_left, first_said, first_good}
 use Rattle.spelled.specs.Spelled.{spelled, spelled_some, good_line, rest_line, only_line}

@@ -1,22 +1,57 @@
 #![tactic(auto)]
-// Text written into a lent area: bytes, words and numbers, each from a place on. Every function returns the place after what it wrote.
+// Text written into a lent area: bytes, words and numbers, one after the other.
 ghost use Rattle.std.specs.Prelude.{[], ◌∷◌, ◌++◌, ◌+◌, ◌≤◌, ◌<◌, length, ◌≡◌};
-ghost use Rattle.text.specs.Text.{Put, decimal, digit as digit_of, digits_most, number_most, field_most};
+ghost use Rattle.text.specs.Text.{decimal, digit as digit_of, digits_most, number_most, field_most};
+ghost use Rattle.text.specs.Page.{HasRoom, Wrote};
 
-pub fn put_byte(area: &mut [u8], at: usize, byte: u8) -> usize
-    requires { at < length area.old }
-    ensures { Put area.old at (byte ∷ []) area.new result }
-{
-    area[at] = byte;
-    at + 1
+// An area, and how many of its first bytes are written. What is written stays: each method adds to it.
+#[derive(Drop)]
+pub struct Page<'a> {
+    pub area: &'a mut [u8],
+    pub size: usize,
 }
 
-pub fn put_word(area: &mut [u8], at: usize, word: &[u8]) -> usize
-    requires { at + length word.now ≤ length area.old }
-    ensures { Put area.old at word.now area.new result }
-{
-    area[at..at + word.len()].copy_from_slice(word);
-    at + word.len()
+impl Page<'_> {
+    pub fn byte(&mut self, byte: u8)
+        requires { HasRoom self.old 1 }
+        ensures { Wrote self.old (byte ∷ []) self.new }
+    {
+        self.area[self.size] = byte;
+        self.size += 1;
+    }
+
+    pub fn word(&mut self, word: &[u8])
+        requires { HasRoom self.old (length word.now) }
+        ensures { Wrote self.old word.now self.new }
+    {
+        let end = self.size + word.len();
+        self.area[self.size..end].copy_from_slice(word);
+        self.size = end;
+    }
+
+    // A number of at most five digits, in decimal. A formatter of std may fail for want of room, and here the room is known.
+    #[tactic(auto, using(crate::specs::Laws::decimal_one))]
+    pub fn number(&mut self, n: usize)
+        requires { (n < number_most) × HasRoom self.old digits_most }
+        ensures text { Wrote self.old (decimal n) self.new }
+        ensures most { self.new.size ≤ self.old.size + digits_most }
+    {
+        if n < 10 {
+            return self.byte(digit(n));
+        }
+        self.number(n / 10);
+        self.byte(digit(n % 10));
+    }
+
+    // A number and the byte that ends its field.
+    pub fn field(&mut self, n: usize, end: u8)
+        requires { (n < number_most) × HasRoom self.old field_most }
+        ensures text { Wrote self.old (decimal n ++ (end ∷ [])) self.new }
+        ensures most { self.new.size ≤ self.old.size + field_most }
+    {
+        self.number(n);
+        self.byte(end);
+    }
 }
 
 fn digit(n: usize) -> u8
@@ -24,28 +59,4 @@ fn digit(n: usize) -> u8
     ensures { result ≡ digit_of n }
 {
     b'0' + (n as u8)
-}
-
-// A number of at most five digits, in decimal.
-#[tactic(auto, using(crate::specs::Laws::decimal_one))]
-pub fn put_number(area: &mut [u8], at: usize, n: usize) -> usize
-    requires { (n < number_most) × (at + digits_most ≤ length area.old) }
-    ensures text { Put area.old at (decimal n) area.new result }
-    ensures most { result ≤ at + digits_most }
-{
-    if n < 10 {
-        return put_byte(area, at, digit(n));
-    }
-    let next = put_number(area, at, n / 10);
-    put_byte(area, next, digit(n % 10))
-}
-
-// A number and the byte that ends its field.
-pub fn put_field(area: &mut [u8], at: usize, n: usize, end: u8) -> usize
-    requires { (n < number_most) × (at + field_most ≤ length area.old) }
-    ensures text { Put area.old at (decimal n ++ (end ∷ [])) area.new result }
-    ensures most { result ≤ at + field_most }
-{
-    let next = put_number(area, at, n);
-    put_byte(area, next, end)
 }

@@ -1,34 +1,14 @@
--- Each test that fails is the first to fail, so its number is the definition's. A good header has the shape that the walks ask for.
+-- A book that is not opened is refused for its header, and another for its records (`opened_refusal`).
 -- Assumes nothing.
-use Rattle.std.proofs.Common.{sym, ◌∙◌, le-ltb, lt-ltb}
-use Rattle.book.specs.Book.{book_refusal}
-use Rattle.book.specs.Good.{shaped}
+use Rattle.std.proofs.Common.{◌∙◌, ap}
+use Rattle.std.proofs.lemmas.Result.{err_from_is_err_and}
+use Rattle.book.proofs.Open.{refused, opened_refusal}
 use Rattle.book.proofs.check.Goals as goal
 
-pub returns-then-book-lt-HEAD_SIZE : goal.returns-then-book-lt-HEAD_SIZE
-unfolding book_refusal
-returns-then-book-lt-HEAD_SIZE c =
-    simp (lt-ltb _ _ c.if-book-lt-HEAD_SIZE.true)
+pub returns-in_err-new : goal.returns-in_err-new
+returns-in_err-new c =
+    let p = err_from_is_err_and c.from_residual.result c.from_residual.ensures.1 in
+    rw (p.1, p.2) (ap refused c.in_err-new.ensures ∙ opened_refusal c.args.book.now)
 
-pub returns-then-not-head_good : goal.returns-then-not-head_good
-unfolding book_refusal
-returns-then-not-head_good c =
-    simp (le-ltb _ _ c.if-book-lt-HEAD_SIZE.false, sym c.head_good.ensures ∙ c.if-not-head_good.true)
-
-pub few_refused-requires : goal.few_refused-requires
-few_refused-requires c =
-    shaped _ (sym c.head_good.ensures ∙ c.if-not-head_good.false)
-
-pub many_refused-requires : goal.many_refused-requires
-many_refused-requires c =
-    shaped _ (sym c.head_good.ensures ∙ c.if-not-head_good.false)
-
-pub returns-then-seat_count-lt-MANY_SEATS : goal.returns-then-seat_count-lt-MANY_SEATS
-unfolding book_refusal
-returns-then-seat_count-lt-MANY_SEATS c =
-    simp (le-ltb _ _ c.if-book-lt-HEAD_SIZE.false, sym c.head_good.ensures ∙ c.if-not-head_good.false) c.few_refused.ensures
-
-pub returns-else-seat_count-lt-MANY_SEATS : goal.returns-else-seat_count-lt-MANY_SEATS
-unfolding book_refusal
-returns-else-seat_count-lt-MANY_SEATS c =
-    simp (le-ltb _ _ c.if-book-lt-HEAD_SIZE.false, sym c.head_good.ensures ∙ c.if-not-head_good.false) c.many_refused.ensures
+pub returns : goal.returns
+returns c = c.check.ensures ∙ ap refused c.in_ok-new.ensures ∙ opened_refusal c.args.book.now

@@ -1,9 +1,8 @@
--- The event's four fields and its answer's four.
+-- The event's number, and the seven others that end its line.
 -- Assumes nothing.
-use Rattle.std.proofs.Common.{arith}
-use Rattle.desk.specs.Lines.{put_event}
+use Rattle.text.specs.Page.{wrote_next, wrote_same}
+use Rattle.desk.specs.Lines.{event_parts}
 use Rattle.desk.proofs.put_event.Goals as goal
 
-pub returns : goal.returns
-returns c =
-    let x = c.args in record { text = put_event x.n x.e x.a _ _ _ _ _ _ c.wide.ensures.value c.wide-2.ensures.value c.wide-3.ensures.value c.wide-4.ensures.value c.wide-5.ensures.value c.wide-6.ensures.value c.put_fields-next.ensures.text c.put_fields.ensures.text; most = omega arith }
+pub returns-clause-text : goal.returns-clause-text
+returns-clause-text c = wrote_same (event_parts c.args.n c.args.event c.args.answer) (wrote_next c.number.ensures.text c.put_ending.ensures.text)

@@ -1,10 +1,7 @@
--- Safe and ends: the counter goes up to its bound.
+-- The legal places are no more than those passed.
 -- Assumes nothing.
-use Rattle.std.proofs.Common.{◌≤◌, ◌-◌}
+use Rattle.std.proofs.Common.{◌≤◌}
 use Rattle.rules_cases.proofs.legal_count.Given as goal
 
 abbrev pub invariant-loop-i : goal.invariant-loop-i
-invariant-loop-i l = (l.i ≤ 19456) × (l.legal ≤ l.i)
-
-abbrev pub decreases-loop-i : goal.decreases-loop-i
-decreases-loop-i l = 19456 - l.i
+invariant-loop-i l = l.legal ≤ l.i

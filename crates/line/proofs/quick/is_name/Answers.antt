@@ -1,31 +1,15 @@
 -- `line::quick::is_name` meets its contract: the words that were compared are those of the name and of its row.
 -- Assumes nothing.
 use Rattle.std.proofs.Common.{arith}
-use Rattle.line.proofs.Rows.{aids_length}
 use Rattle.line.proofs.Found.{name_found}
 use Rattle.line.proofs.quick.is_name.Goals as goal
-
-pub bounds-aids-row : goal.bounds-aids-row
-bounds-aids-row c = omega (arith, aids_length _ c.requires.aids)
-
-pub u64_at-low-requires : goal.u64_at-low-requires
-u64_at-low-requires c = omega (arith, aids_length _ c.requires.aids)
-
-pub u64_at-high-requires : goal.u64_at-high-requires
-u64_at-high-requires c = omega (arith, aids_length _ c.requires.aids)
-
-pub u64_at-requires-2 : goal.u64_at-requires-2
-u64_at-requires-2 c = omega (arith, aids_length _ c.requires.aids)
-
-pub u64_at-requires-4 : goal.u64_at-requires-4
-u64_at-requires-4 c = omega (arith, aids_length _ c.requires.aids)
 
 pub returns : goal.returns
 returns c s =
     let a = c.args in
     let low = c.u64_at-low in
     let high = c.u64_at-high in
-    name_found a.rest.now a.aids.now a.at a.message a.letters c.requires.aids (λ k. (c.type_inv.rest k).fits) (λ k. (c.type_inv.aids k).fits)
+    name_found a.rest.now a.aids.now.bytes a.at a.message a.letters a.aids.now.made (λ k. (c.type_inv.rest k).fits)
     (omega arith) (omega arith) (omega arith)
     low.result high.result low.ensures high.ensures _ _ _ _ c.u64_at.ensures c.u64_at-2.ensures c.u64_at-3.ensures c.u64_at-4.ensures
     c.if-aids-row.false s

@@ -1,36 +1,31 @@
 -- `line::quick::put_row` meets its contract: what is put is what the definition puts.
 -- Assumes nothing.
 use Rattle.std.proofs.Common.{◌≡◌, ◌-◌, ◌≤◌, ℕ, List, length, sym, ap, ◌∙◌, arith, length-set}
+use Rattle.names.specs.declared.Message.{Message}
 use Rattle.names.specs.Names.{name_of}
+use Rattle.names.specs.Numbers.{message_number}
+use Rattle.names.specs.Laws.{message_range}
 use Rattle.line.specs.Quick.{with_row, rows_to}
 use Rattle.line.specs.Reads.{name_word}
 use Rattle.line.proofs.Rows.{rows_on, rows_length}
 use Rattle.line.proofs.quick.put_row.Goals as goal
 
 -- how long the two are
-letters : (m : ℕ) (name : List ℕ) → m ≤ 14 → name ≡ name_of m → length name ≤ 14
-letters m name h e = omega (arith, ap length e, (name_word m h).short)
-
-size : (m : ℕ) (aids : List ℕ) → m ≤ 14 → aids ≡ rows_to (m - 1) → length aids ≡ 320
-size m aids h e = ap length e ∙ rows_length _ (omega arith)
+sizes : (m : Message) (aids name : List ℕ) → aids ≡ rows_to (message_number m - 1) → name ≡ name_of (message_number m)
+    → (message_number m ≤ 14) × (length aids ≡ 320) × (length name ≤ 14)
+sizes m aids name a n =
+    let most = (message_range m).1 in
+    (most, ap length a ∙ rows_length _ (omega arith), omega (arith, ap length n, (name_word (message_number m) most).short))
 
 pub put-requires : goal.put-requires
-put-requires c =
-    let r = c.requires in
-    omega (arith, letters _ _ r.known r.name, size _ _ r.known r.before)
+put-requires c = let s = sizes _ _ _ c.requires c.name-name.ensures in omega (arith, s)
 
 pub bounds-aids-at : goal.bounds-aids-at
-bounds-aids-at c =
-    let r = c.requires in
-    omega (arith, c.put.ensures.size, letters _ _ r.known r.name, size _ _ r.known r.before)
+bounds-aids-at c = let s = sizes _ _ _ c.requires c.name-name.ensures in omega (arith, s)
 
 pub bounds-aids-at-2 : goal.bounds-aids-at-2
-bounds-aids-at-2 c =
-    let r = c.requires in
-    simp length-set (omega (arith, c.put.ensures.size, size _ _ r.known r.before))
+bounds-aids-at-2 c = let s = sizes _ _ _ c.requires c.name-name.ensures in simp length-set (omega (arith, s))
 
 pub returns : goal.returns
 unfolding with_row
-returns c =
-    let r = c.requires in
-    rw (c.put.ensures.bytes, r.name, r.before) (sym (rows_on c.args.message r.some))
+returns c = rw (c.put.ensures.bytes, c.number.ensures, c.name-name.ensures, c.requires) (sym (rows_on _ (message_range c.args.message).0))

@@ -1,0 +1,47 @@
+-- What a field names is determined by its number: no two messages have one number, and no two ways.
+-- Assumes nothing.
+use Rattle.std.specs.Prelude.{ℕ, zero, suc, ◌≡◌, refl, Option, Some, None, [], ◌∷◌}
+use Rattle.std.proofs.Common.{sym, ◌∙◌, ap, get_or}
+use Rattle.names.specs.Numbers.{message_told, way_told}
+use Rattle.names.specs.declared.Message.{Message}
+use Rattle.names.specs.declared.Message.TheVariants.{Cancel, Complete, Close, Compensate, Failed, Exited, NotCompleted, Exit, Completed, Fail, CannotComplete, Canceled, Closed, Compensated}
+use Rattle.names.specs.declared.Way.{Way}
+use Rattle.names.specs.declared.Way.TheVariants.{Got, Sent}
+
+unfoldable message_of : ℕ → Option Message
+message_of zero = None
+message_of (suc k) =
+    get_or (Some Cancel ∷ Some Complete ∷ Some Close ∷ Some Compensate ∷ Some Failed ∷ Some Exited ∷ Some NotCompleted ∷ Some Exit ∷ Some Completed ∷ Some Fail ∷ Some CannotComplete ∷ Some Canceled ∷ Some Closed ∷ Some Compensated ∷ []) k None
+
+message_back : (a : Option Message) → message_of (message_told a) ≡ a
+unfolding message_of
+message_back None = refl
+message_back (Some Cancel) = refl
+message_back (Some Complete) = refl
+message_back (Some Close) = refl
+message_back (Some Compensate) = refl
+message_back (Some Failed) = refl
+message_back (Some Exited) = refl
+message_back (Some NotCompleted) = refl
+message_back (Some Exit) = refl
+message_back (Some Completed) = refl
+message_back (Some Fail) = refl
+message_back (Some CannotComplete) = refl
+message_back (Some Canceled) = refl
+message_back (Some Closed) = refl
+message_back (Some Compensated) = refl
+
+pub message_single : (a b : Option Message) → message_told a ≡ message_told b → a ≡ b
+message_single a b h = sym (message_back a) ∙ ap message_of h ∙ message_back b
+
+unfoldable way_of : ℕ → Option Way
+way_of k = get_or (Some Got ∷ Some Sent ∷ []) k None
+
+way_back : (a : Option Way) → way_of (way_told a) ≡ a
+unfolding way_of
+way_back None = refl
+way_back (Some Got) = refl
+way_back (Some Sent) = refl
+
+pub way_single : (a b : Option Way) → way_told a ≡ way_told b → a ≡ b
+way_single a b h = sym (way_back a) ∙ ap way_of h ∙ way_back b
