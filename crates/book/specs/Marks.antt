@@ -43,6 +43,11 @@ marks_by_lem kind direction h = at (eqb kind atomic) refl h where
       let none : direction ≡ 0 = eqb-true direction 0 p.1 in
       (λ j. marks_by ((3 * is j + none j + 1) % 4)) ∙ (λ j. seat_marks (sym is j) (sym none j))
 
+-- marks that the code finds by an activity's number
+pub marks_are : (kind direction n marks : ℕ) → activity_good kind direction ≡ true
+    → (3 * kind + direction + 1) % 4 ≡ n → marks ≡ marks_by n → marks ≡ seat_marks kind direction
+marks_are kind direction n marks good is e = e ∙ sym (ap marks_by is) ∙ marks_by_lem kind direction good
+
 pub marks_agree : (kind direction role table s : ℕ) → marked_in (seat_marks kind direction) role table s ≡ (has_state role table s && agrees kind direction role s)
 unfolding agrees
 marks_agree kind direction role table s = at (eqb kind atomic) refl where

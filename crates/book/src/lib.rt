@@ -2,18 +2,20 @@
 // The book: where its records stand, and whether it is good. No other crate knows its bytes.
 ghost use Rattle.std.specs.Prelude.{◌≡◌, Bool, ℕ, true, false, ◌+◌, ◌*◌, ◌≤◌, ◌<◌, length, IfOk};
 ghost use Rattle.lemmas.specs.Walks.{every};
-ghost use Rattle.book.specs.Layout.{head_size, most_activities, most_seats, activity_count, seat_count, size_of, activity_of, seat_of, put_state, put_direction, moved, Shaped};
+ghost use Rattle.book.specs.Layout.{head_size, most_activities, most_seats, activity_count, seat_count, activities_from, seats_from, size_of, activity_of, seat_of, put_state, put_direction, moved, Shaped};
 ghost use Rattle.book.specs.Marks.{seat_marks, Marked, TellsMarks, Tells};
 ghost use Rattle.book.specs.Book.{activity_good, seat_good, activity_good_at, seat_good_at, fits_at, head_good, activities_good, seats_good, seats_fit, activities_refusal, seats_refusal, records_refusal, book_refusal, number, number_of, headed, opened};
 
 use std::marker::Model;
 
+// Each field is a number, as a record may hold any byte and is read before its book is known to be good.
 #[derive(Clone, Copy, Debug, PartialEq, Eq)]
 pub struct Activity {
     pub kind: u8,
     pub direction: u8,
 }
 
+// Role, table and state are numbers too: what `rules` answers for each of them is asked of any byte.
 #[derive(Clone, Copy, Debug, PartialEq, Eq)]
 pub struct Seat {
     pub activity: usize,
@@ -68,7 +70,7 @@ impl<'a> Model for Book<'a> {
     ghost invariant = { λ book. Shaped book.bytes.now };
 }
 
-// The kinds are numbers, as a kind may be any byte and a book's activities are read before it is known to be good.
+// Kinds of activities, by the numbers that a book says.
 pub const ATOMIC: u8 = 1;
 
 pub const MIXED: u8 = 2;
@@ -88,13 +90,21 @@ const MANY_SEATS: usize = 64;
 
 impl<'a> Head<'a> {
     // The header, if there are enough bytes for one.
-    pub fn of(bytes: &'a [u8]) -> Option<Head<'a>>
+    pub fn new(bytes: &'a [u8]) -> Option<Head<'a>>
         ensures { result ≡ headed bytes.now }
     {
         if bytes.len() < HEAD_SIZE {
             return None;
         }
         Some(Head { bytes })
+    }
+
+    // The header of bytes that are known to have one.
+    pub fn of(bytes: &'a [u8]) -> Head<'a>
+        requires { head_size ≤ length bytes.now }
+        ensures { result ≡ bytes.now }
+    {
+        Head { bytes }
     }
 
     // How many activities, and how many seats, the header says.
@@ -112,6 +122,19 @@ impl<'a> Head<'a> {
         records::u16_at(self.bytes, 2)
     }
 
+    // Where the activities begin, and where the seats do, as the header says.
+    fn activities_from(&self) -> usize
+        ensures { result ≡ activities_from self.now }
+    {
+        records::u16_at(self.bytes, 4)
+    }
+
+    fn seats_from(&self) -> usize
+        ensures { result ≡ seats_from self.now }
+    {
+        records::u16_at(self.bytes, 6)
+    }
+
     // The length of the book that the header begins.
     pub fn size(&self) -> usize
         ensures { result ≡ size_of self.now }
@@ -124,20 +147,19 @@ impl<'a> Head<'a> {
     fn is_good(&self) -> bool
         ensures { result ≡ head_good self.now }
     {
-        let bytes = self.bytes;
         if ACTIVITIES_MOST < self.activity_count() {
             return false;
         }
         if SEATS_MOST < self.seat_count() {
             return false;
         }
-        if records::u16_at(bytes, 4) != HEAD_SIZE {
+        if self.activities_from() != HEAD_SIZE {
             return false;
         }
-        if records::u16_at(bytes, 6) != HEAD_SIZE + ACTIVITY_SIZE * self.activity_count() {
+        if self.seats_from() != HEAD_SIZE + ACTIVITY_SIZE * self.activity_count() {
             return false;
         }
-        bytes.len() == self.size()
+        self.bytes.len() == self.size()
     }
 }
 
@@ -152,6 +174,7 @@ impl Activity {
 
     // The states that a seat of a good activity may have, by rules 4 and 5 together. An atomic activity without a direction, the two with
     // one and a mixed activity are 0, 1, 2 and 3: no processor foresees which of them it is, and four numbers are looked up without a jump.
+    #[tactic(auto, using(crate::specs::Marks::marks_are))]
     fn seat_marks(self) -> u64
         requires { activity_good self.kind self.direction ≡ true }
         ensures { result ≡ seat_marks self.kind self.direction }
@@ -178,7 +201,7 @@ impl Seat {
     }
 }
 
-// Whether a rule holds for each number below `count`. The walk is left at the first record that breaks it.
+// Whether a rule holds for each number below `count`. The outline's form: a labelled walk, left at the first record that breaks the rule.
 fn holds_for_all<F: Fn(usize) -> bool>(count: usize, rule: F) -> bool
     requires { (n : ℕ) → n < count → F.pre rule n }
     ensures { (p : ℕ → Bool) → ((n : ℕ) (r : Bool) → n < count → F.post rule n r → r ≡ p n) → result ≡ every p count }
@@ -198,7 +221,7 @@ impl<'a> Book<'a> {
     pub fn new(bytes: &'a [u8]) -> Result<Book<'a>, Refusal>
         ensures { result ≡ opened bytes.now }
     {
-        let head = Head::of(bytes).ok_or(Refusal::Short)?;
+        let head = Head::new(bytes).ok_or(Refusal::Short)?;
         if !head.is_good() {
             return Err(Refusal::Layout);
         }
@@ -213,19 +236,26 @@ impl<'a> Book<'a> {
         Book { bytes }
     }
 
+    fn head(&self) -> Head<'a>
+        ensures value { result ≡ self.now }
+        ensures shaped { Shaped result }
+    {
+        Head { bytes: self.bytes }
+    }
+
     // How many activities, and how many seats, it has.
     pub fn activity_count(&self) -> usize
         ensures value { result ≡ activity_count self.now }
         ensures most { result ≤ most_activities }
     {
-        Head { bytes: self.bytes }.activity_count()
+        self.head().activity_count()
     }
 
     pub fn seat_count(&self) -> usize
         ensures value { result ≡ seat_count self.now }
         ensures most { result ≤ most_seats }
     {
-        Head { bytes: self.bytes }.seat_count()
+        self.head().seat_count()
     }
 
     // Activity `k`.
@@ -250,8 +280,7 @@ impl<'a> Book<'a> {
         ensures most { result.activity < 256 }
     {
         let bytes = self.bytes;
-        let from = records::u16_at(bytes, 6);
-        let at = from + SEAT_SIZE * n;
+        let at = self.head().seats_from() + SEAT_SIZE * n;
         Seat {
             activity: bytes[at] as usize,
             role: bytes[at + 1],
@@ -313,6 +342,7 @@ impl<'a> Book<'a> {
     }
 
     // Every activity is one that the rules allow.
+    #[tactic(auto, unfolding(crate::specs::Book::activities_good), using(lemmas::specs::Walks::every_told))]
     fn activities_good(&self) -> bool
         ensures { result ≡ activities_good self.now }
     {
@@ -320,6 +350,7 @@ impl<'a> Book<'a> {
     }
 
     // Every seat is one that the rules allow.
+    #[tactic(auto, unfolding(crate::specs::Book::seats_good), using(lemmas::specs::Walks::every_told))]
     fn seats_good(&self) -> bool
         ensures { result ≡ seats_good self.now }
     {
@@ -328,6 +359,7 @@ impl<'a> Book<'a> {
     }
 
     // Every seat is one that the rules allow, and none is against its activity's direction.
+    #[tactic(auto, unfolding(crate::specs::Book::seats_fit), using(lemmas::specs::Walks::every_told))]
     fn seats_fit<F: Fn(usize) -> Option<u64>>(&self, marks_of: F) -> bool
         requires { Tells self.now (F.pre marks_of) (F.post marks_of) }
         ensures { result ≡ seats_fit self.now }
@@ -335,6 +367,7 @@ impl<'a> Book<'a> {
         holds_for_all(self.seat_count(), |n| self.seat_fits(n, &marks_of))
     }
 
+    // The same of one seat: a closure in the walk's call would have these two clauses written beside it too.
     fn seat_fits<F: Fn(usize) -> Option<u64>>(&self, n: usize, marks_of: &F) -> bool
         requires n_bound { n < seat_count self.now }
         requires marks { Tells self.now (F.pre marks_of.now) (F.post marks_of.now) }
@@ -359,6 +392,7 @@ impl<'a> Book<'a> {
     }
 
     // Every activity is one that the rules allow, and then the marks of each one's seats stand at its number.
+    // The outline's form: a labelled walk, left at the first record that breaks the rule. It writes as it goes, so it is no `holds_for_all`.
     fn fill_marks(&self, marks: &mut [u64]) -> Result<(), Refusal>
         requires { Marked self.now 0 marks.old }
         ensures value { number_of result ≡ activities_refusal self.now }
@@ -384,18 +418,18 @@ pub fn check(book: &[u8]) -> Result<(), Refusal>
     Book::new(book)?.check()
 }
 
-// Seat `n` in another state.
+// Seat `n` in another state. A write changes what a `Book` would lend, so the writes take the bytes and ask that they are `Shaped`.
 #[tactic(auto, unfolding(crate::specs::Layout::put_state))]
 pub fn put_state(book: &mut [u8], n: usize, state: u8)
     requires shaped { Shaped book.old }
     requires n_bound { n < seat_count book.old }
     ensures { book.new ≡ put_state book.old n state }
 {
-    let from = records::u16_at(book, 6);
+    let from = Book::of(book).head().seats_from();
     book[from + SEAT_SIZE * n + 3] = state;
 }
 
-// Activity `k` with another direction.
+// Activity `k` with another direction. One function for both stores would take the place, which these two alone know.
 #[tactic(auto, unfolding(crate::specs::Layout::put_direction))]
 fn put_direction(book: &mut [u8], k: usize, direction: u8)
     requires shaped { Shaped book.old }

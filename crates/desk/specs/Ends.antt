@@ -1,17 +1,14 @@
 -- The ends of the desk: what an input comes to on each way through it, and what is then left of the input.
 -- Assumes nothing.
-use Rattle.std.specs.Prelude.{ℕ, None, Some, ◌%◌, ◌≤◌, ◌<◌, ◌≡◌, List, ◌++◌, length, take, drop}
+use Rattle.std.specs.Prelude.{ℕ, Option, None, Some, Err, ok_or, ◌%◌, ◌≤◌, ◌<◌, ◌≡◌, List, ◌++◌, length, take, drop}
 use Rattle.std.proofs.Common.{arith, sym, ap, ◌∙◌, length-take-le}
 use borrow.Author.Tests.{lt-ltb, le-ltb, eq-eqb, ne_eqb}
 use Rattle.book.specs.declared.Refusal.{Refusal as BookRefusal}
+use Rattle.book.specs.declared.Refusal.TheVariants.{Short}
 use Rattle.book.specs.Layout.{head_size, size_of}
 use Rattle.book.specs.Book.{book_refusal, headed, number}
 use Rattle.records.specs.Records.{events_of}
 use Rattle.run.specs.Run.{after}
-use Rattle.line.specs.declared.Refusal.{Refusal as LineRefusal}
-use Rattle.line.specs.Grammar.{number as line_number}
-use Rattle.journal.specs.declared.Refusal.{Refusal as JournalRefusal}
-use Rattle.journal.specs.declared.Refusal.TheVariants.{Line as OfLine, Room, TextLong}
 use Rattle.journal.specs.Journal.{refused, outcome, number as journal_number}
 use Rattle.text.specs.Text.{number_most}
 use Rattle.desk.specs.declared.Refusal.{Refusal}
@@ -23,14 +20,6 @@ use Rattle.desk.specs.Journals.{Taken}
 -- no refusal has the number of a good book
 pub refusal_some : (r : BookRefusal) → number r ≡ 0 → ⊥
 refusal_some r = grind arith
-
-pub line_refusal_some : (r : LineRefusal) → line_number r ≡ 0 → ⊥
-line_refusal_some r = grind arith
-
-pub journal_refusal_some : (r : JournalRefusal) → journal_number r ≡ 0 → ⊥
-journal_refusal_some (OfLine r) = line_refusal_some r
-journal_refusal_some Room = λ e. omega (arith, e)
-journal_refusal_some TextLong = λ e. omega (arith, e)
 
 -- bytes that have no header, and those that have one
 pub no_head : (b : List ℕ) → None ≡ headed b → length b < head_size
@@ -96,10 +85,19 @@ module _ (input : List ℕ) where
   refused_after (Book r) h = ap (left_by input) (sym h.come)
   refused_after (Journal r) h = ap (left_by input) (sym h.come)
 
-  pub worked_after : (area : List ℕ) (w : Work) → Works input area w → after (take w.book input) (events_of (take w.events area)) ++ drop w.book input ≡ input_after input
+  pub worked_after : (area : List ℕ) (w : Work) → Works input area w
+      → after (take w.book input) (events_of (take w.events area)) ++ drop w.book input ≡ input_after input
   unfolding input_after
   worked_after area w h =
-      ap (λ (k : ℕ). after (take w.book input) (events_of (take w.events area)) ++ drop k input) (sym (length-take-le w.book input h.within)) ∙ ap (left_by input) (sym h.come)
+      ap (λ (k : ℕ). after (take w.book input) (events_of (take w.events area)) ++ drop k input) (sym (length-take-le w.book input h.within))
+      ∙ ap (left_by input) (sym h.come)
+
+-- no header
+pub refuses_short : (input : List ℕ) (o : Option (List ℕ)) (r : BookRefusal) → Err r ≡ ok_or o Short
+    → o ≡ headed input → Refuses input (Book r)
+refuses_short input None r e h = let is : r ≡ Short = cc in
+    record { come = too_short input (no_head input h) ∙ ap (λ (x : BookRefusal). bad_book (number x)) (sym is); line = tt }
+refuses_short input (Some b) r e h = cc
 
 -- a book behind its header: refused, or good
 module _ (input b h : List ℕ) (n : ℕ) (some : Some h ≡ headed input) (is : n ≡ size_of h) (whole : n ≤ length input) (e : b ≡ take n input) where

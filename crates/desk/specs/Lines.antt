@@ -51,7 +51,9 @@ pub refused_line_parts : (number n : ℕ)
     → bytes "refused" ++ ((space ∷ []) ++ ((decimal number ++ (space ∷ [])) ++ (bytes "line" ++ ending (n ∷ [])))) ≡ refused_line number n
 unfolding refused_line
 refused_line_parts number n =
-    ap (λ (l : List ℕ). bytes "refused" ++ (space ∷ l)) (append_assoc (decimal number) (space ∷ []) (bytes "line" ++ ending (n ∷ [])) ∙ ap (λ (l : List ℕ). decimal number ++ (space ∷ l)) (line_ending (bytes "line") (n ∷ [])))
+    ap (λ (l : List ℕ). bytes "refused" ++ (space ∷ l))
+    (append_assoc (decimal number) (space ∷ []) (bytes "line" ++ ending (n ∷ []))
+    ∙ ap (λ (l : List ℕ). decimal number ++ (space ∷ l)) (line_ending (bytes "line") (n ∷ [])))
 
 -- one more event and its answer
 lines_more : (i : ℕ) (es : List Event) (as' : List Answer) (e : Event) (a : Answer) → length es ≡ length as'

@@ -1,6 +1,6 @@
 -- Lines that are written part by part, each part from where the one before it ended (`Put`), and what the whole then owes.
 -- Assumes nothing.
-use Rattle.std.specs.Prelude.{ℕ, ◌+◌, ◌≤◌, ◌<◌, ◌≡◌, length, take, drop}
+use Rattle.std.specs.Prelude.{ℕ, ◌≤◌, ◌≡◌, length, take, drop}
 use Rattle.std.proofs.Common.{arith, sym, ◌∙◌, length-take-le}
 use Rattle.std.proofs.Math.Path.{ap}
 use mathlib.Core.List.{List, [], ◌∷◌, ◌++◌, append_assoc}
@@ -41,7 +41,7 @@ module _ (a b c d : List ℕ) where
       ≡ line (a ∷ b ∷ c ∷ d ∷ e ∷ f ∷ g ∷ h ∷ [])
   eight e f g h = simp append_assoc
 
--- what the code writes one after the other
+-- texts that are put one after the other
 module _ {o p q r s : List ℕ} {at k l m n : ℕ} where
   pub put_fields : (a b c d end : ℕ) → Put o at (decimal a ++ (space ∷ [])) p k → Put p k (decimal b ++ (space ∷ [])) q l
       → Put q l (decimal c ++ (space ∷ [])) r m → Put r m (decimal d ++ (end ∷ [])) s n → Put o at (fields a b c d end) s n

@@ -11,16 +11,16 @@ ghost use Rattle.desk.specs.Desk.{ending, ending_most, FewDigits, records_most, 
 ghost use Rattle.desk.specs.Ends.{refused_as, LineFits, Refuses, Works};
 
 use book::{Book, Head};
+use line::{NEWLINE, SPACE};
 use records::Event;
 use rules::Answer;
 use text::Page;
 
-const SPACE: u8 = b' ';
-
-const NEWLINE: u8 = b'\n';
-
 // As many bytes as the records of 4,096 events have, or their answers.
 const RECORDS_MOST: usize = records::EVENT_SIZE * run::EVENTS_MOST;
+
+// The book's line and those of 4,096 events and 4,096 seats, each at its longest: `report_most`, as `report_space` says.
+const REPORT_MOST: usize = 17 + 48 * run::EVENTS_MOST + 17 * book::SEATS_MOST;
 
 // The numbers that end a line, a space before each.
 fn put_ending(page: &mut Page, numbers: &[usize])
@@ -58,7 +58,7 @@ fn put_event(page: &mut Page, n: usize, event: Event, answer: Answer)
     );
 }
 
-// A line for each event, with its answer: their records stand in the areas that a run takes.
+// A line for each event, with its answer: their records stand in the areas that a run takes, so both are read by their number.
 fn put_events(page: &mut Page, events: &[u8], answers: &[u8])
     requires events_len_bound { (length events.now ≤ records_most) × (length events.now ≤ length answers.now) }
     requires room { HasRoom page.old (event_line_most * (length events.now / 4)) }
@@ -86,7 +86,7 @@ fn put_seats(page: &mut Page, book: &Book)
     }
 }
 
-// The listing of a book after its events.
+// The listing of a book after its events. Here and below room for a whole report is asked: a least room of each one's own would be a number more.
 fn put_listing(page: &mut Page, book: &Book, events: &[u8], answers: &[u8])
     requires events_len_bound { (length events.now ≤ records_most) × (length events.now ≤ length answers.now) }
     requires room { HasRoom page.old report_most }
@@ -157,9 +157,8 @@ fn put_refusal(page: &mut Page, refusal: Refusal)
     }
 }
 
-// A good book and its journal: how many bytes the book has, and how many the records of the journal's events. No slices, as the run
-// writes the book.
-#[derive(Clone, Copy)]
+// A good book and its journal's events, by how many bytes each has: two lengths and no slices, as the run writes the book.
+#[derive(Clone, Copy, Debug, PartialEq, Eq)]
 struct Work {
     book: usize,
     events: usize,
@@ -170,12 +169,9 @@ fn judge(input: &[u8], area: &mut [u8]) -> Result<Work, Refusal>
     requires { records_most ≡ length area.old }
     ensures { MatchResult result (Works input.now area.new) (Refuses input.now) }
 {
-    let Some(head) = Head::of(input) else {
-        return Err(Refusal::Book(book::Refusal::Short));
-    };
-    let size = head.size();
+    let size = Head::new(input).ok_or(book::Refusal::Short)?.size();
     if input.len() < size {
-        return Err(Refusal::Book(book::Refusal::Layout));
+        return Err(book::Refusal::Layout.into());
     }
     let (book, text) = input.split_at(size);
     book::check(book)?;
@@ -200,10 +196,10 @@ fn put_report(page: &mut Page, input: &mut [u8])
 }
 
 // Room for any report.
-pub fn report_space() -> [u8; 266257]
+pub fn report_space() -> [u8; REPORT_MOST]
     ensures { report_most ≡ length result }
 {
-    [0; 266257]
+    [0; REPORT_MOST]
 }
 
 // Puts the whole text at the front of `out` and returns its length. The book is left as the run leaves it.

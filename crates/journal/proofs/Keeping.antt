@@ -1,17 +1,16 @@
 -- What is kept while a text is read: after n good lines the kept bytes begin with the records of their events, and what the whole
 -- text gives is those events in front of what the text from the next line on gives.
 -- Assumes nothing.
-use Rattle.std.proofs.Common.{◌==◌, eqb-true, Bool, true, false, Result, Ok, Err, ℕ, suc, ◌+◌, ◌*◌, ◌<◌, ◌≤◌, arith, add-one, ◌≡◌, refl, sym, ◌∙◌, ap, List, [], ◌∷◌, ◌++◌, append-nil, length, take, drop, length-append, length-drop, take_at, lt-ltb, le-ltb}
+use Rattle.std.proofs.Common.{◌==◌, eqb-true, true, false, ℕ, suc, ◌+◌, ◌*◌, ◌<◌, ◌≤◌, arith, add-one, ◌≡◌, refl, sym, ◌∙◌, ap, List, [], ◌∷◌, ◌++◌, append-nil, length, take, drop, length-append, length-drop, take_at, lt-ltb, le-ltb}
 use Rattle.std.proofs.lemmas.List.{nil_from_length}
 use Rattle.records.specs.Records.{placed, flat, event_bytes}
 use Rattle.records.specs.Laws.{placed_next, flat_append, length_flat}
 use Rattle.records.specs.declared.Event.{Event}
-use Rattle.line.specs.Grammar.{newline, line_most, index_of, line_of, told as line_told, Good, Refused}
-use Rattle.line.specs.declared.Refusal.{Refusal as LineRefusal}
+use Rattle.line.specs.Grammar.{newline, line_most, index_of, line_of, Good, Refused}
 use Rattle.line.specs.Places.{index_take}
 use Rattle.line.specs.Laws.{line_newline}
-use Rattle.journal.specs.Journal.{Reading, lines, has_room, roomed, refusal_of, Outcome, events, refused, infront, lines_from, events_in, reading_of, outcome, reading, area_after, Owed}
-use Rattle.journal.specs.Laws.{infront_none, infront_more, first_refused, first_good}
+use Rattle.journal.specs.Journal.{Reading, lines, has_room, roomed, Outcome, events, refused, infront, lines_from, events_in, reading_of, outcome, reading, area_after, Owed}
+use Rattle.journal.specs.Laws.{infront_none, infront_more, roomed_good, has_room_lem, first_refused, first_good}
 
 length_records : (es : List Event) → length (flat event_bytes es) ≡ 4 * length es
 length_records es = length_flat event_bytes 4 (λ e. refl) es
@@ -30,15 +29,6 @@ some_left (x ∷ rest) h = omega arith
 pub none_left : (rest : List ℕ) → true ≡ (length rest == 0) → length rest ≡ 0
 none_left rest h = eqb-true (length rest) 0 (sym h)
 
--- why a line's event is not kept
-pub no_room : (said : Result Event LineRefusal) (k : ℕ) → k ≡ refusal_of (roomed false (line_told said)) → roomed false (line_told said) ≡ Refused k
-no_room (Ok e) k h = ap Refused (sym h)
-no_room (Err r) k h = ap Refused (sym h)
-
-pub no_event : (b : Bool) (r : LineRefusal) (k : ℕ) → k ≡ refusal_of (roomed false (line_told (Err r))) → roomed b (line_told (Err r)) ≡ Refused k
-no_event true r k h = ap Refused (sym h)
-no_event false r k h = ap Refused (sym h)
-
 pub kept_none : (text : List ℕ) (area : ℕ) (kept : List ℕ) → Kept text area kept kept text 0
 kept_none text area kept = record { so_far = []; count = refl; bytes = refl; left = sym (infront_none (lines_from area 0 (lines text))) }
 
@@ -50,13 +40,13 @@ module _ (text : List ℕ) (area : ℕ) (kept₀ kept rest : List ℕ) (n : ℕ)
     pub kept_refused : (r : ℕ) → roomed (has_room area n) (line_of rest) ≡ Refused r → lines_from area 0 (lines text) ≡ refused r (n + 1)
     kept_refused r q = k.left ∙ rw (first_refused area n rest more r q, add-one)
 
-    module _ (e : Event) (room : has_room area n ≡ true) (said : Good e ≡ line_of rest) where
-      roomy : roomed (has_room area n) (line_of rest) ≡ Good e
-      roomy = rw (room, ← said)
+    module _ (e : Event) (said : roomed (has_room area n) (line_of rest) ≡ Good e) where
+      pub room_left : (n < 4096) × (4 * n + 4 ≤ area)
+      room_left = has_room_lem area n (roomed_good (has_room area n) (line_of rest) e said).0
 
       pub line_within : (m : ℕ) → m ≡ index_of newline (take line_most rest) → (m ≡ index_of newline rest) × (m < length rest)
       line_within m q =
-          let g = line_newline rest e (sym said) in
+          let g = line_newline rest e (roomed_good (has_room area n) (line_of rest) e said).1 in
           let p = index_take newline line_most rest in
           (omega arith, omega arith)
 
@@ -72,7 +62,7 @@ module _ (text : List ℕ) (area : ℕ) (kept₀ kept rest : List ℕ) (n : ℕ)
             so_far = es ++ (e ∷ []);
             count = length-append es (e ∷ []) ∙ omega (arith, k.count);
             bytes = rw (k', k.bytes, placed_next (flat event_bytes es) kept₀ (event_bytes e) (4 * n) f, flat_append event_bytes es (e ∷ []), s);
-            left = k.left ∙ ap (infront es) (first_good area n rest more e roomy)
+            left = k.left ∙ ap (infront es) (first_good area n rest more e said)
                 ∙ infront_more es (e ∷ []) (lines_from area (suc n) (lines (drop (suc (index_of newline rest)) rest)))
                 ∙ rw (d, add-one n);
           }
@@ -83,13 +73,13 @@ module _ (whole : Outcome) (kept : List ℕ) (area : ℕ) where
 
   pub owed_good :
       (text kept₀ rest : List ℕ) (n : ℕ) → whole ≡ lines_from area 0 (lines text) → Kept text area kept₀ kept rest n → length rest ≡ 0
-      → 4 * n ≤ area → 4 * n ≤ length kept → Owed whole (record { refusal = 0; line = 0; count = n }) kept area
-  owed_good text kept₀ rest n v k z h g =
+      → 4 * n ≤ area → 4 * n ≤ length kept → (m : ℕ) → m ≡ n → Owed whole (record { refusal = 0; line = 0; count = m }) kept area
+  owed_good text kept₀ rest n v k z h g m e =
       let es = k.so_far in
       let w : whole ≡ events es = v ∙ k.left ∙ rw (nil_from_length rest z, append-nil) in
       let f : length (flat event_bytes es) ≡ 4 * n = length_records es ∙ ap (λ (x : ℕ). 4 * x) k.count in
       let c : take (4 * n) kept ≡ flat event_bytes es = rw k.bytes (take_at (flat event_bytes es) (drop (4 * n) kept₀) (4 * n) f) in
-      record { value = rw (w, k.count); records = rw w c; fits = h; within = g }
+      rw e (record { value = rw (w, k.count); records = rw w c; fits = h; within = g })
 
 count_of : (o : Outcome) → (reading_of o).count ≡ length (events_in o)
 count_of (events es) = refl

@@ -1,7 +1,7 @@
 -- A journal, as 01 has it under 'Journal lines': a text is its lines, each line says an event or a refusal, and the text gives
 -- the events of all its lines or the first refusal with its line's number.
 -- Assumes nothing.
-use Rattle.std.specs.Prelude.{Result, Ok, Err, ℕ, suc, ◌+◌, ◌*◌, ◌≤◌, ◌≡◌, Bool, true, false, ◌&&◌, cond, List, [], ◌∷◌, ◌++◌, eqb, leb, ltb, length, take, drop}
+use Rattle.std.specs.Prelude.{Result, Ok, Err, MatchResult, ℕ, suc, ◌+◌, ◌*◌, ◌≤◌, ◌≡◌, Bool, true, false, ◌&&◌, cond, List, [], ◌∷◌, ◌++◌, eqb, leb, ltb, length, take, drop}
 use Rattle.records.specs.Records.{flat, event_bytes}
 use Rattle.records.specs.declared.Event.{Event}
 use Rattle.line.specs.Grammar.{newline, line_of, Line, Good, Refused, number as line_number}
@@ -73,6 +73,10 @@ number TextLong = 26
 abbrev pub told : Result ℕ Refusing → Reading
 told (Ok n) = record { refusal = 0; line = 0; count = n }
 told (Err e) = record { refusal = number e.refusal; line = e.line; count = 0 }
+
+-- what becomes of line n by what it says: its event, or its refusal with its number
+abbrev pub Answered : Line → ℕ → Result Event Refusing → Type 0
+Answered said n r = MatchResult r (λ e. said ≡ Good e) (λ e. (said ≡ Refused (number e.refusal)) × (e.line ≡ n))
 
 -- a refusal has no events
 abbrev pub events_in : Outcome → List Event

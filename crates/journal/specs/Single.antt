@@ -1,7 +1,8 @@
 -- What `journal::read` returns is determined by the reading: no two refusals have one number, and none has 0.
 -- Assumes nothing.
 use Rattle.std.specs.Prelude.{ℕ, ◌-◌, ◌≤◌, ◌≡◌, refl, Result, Ok, Err, [], ◌∷◌}
-use Rattle.std.proofs.Common.{arith, sym, ◌∙◌, ap, get_or}
+use Rattle.std.proofs.Common.{arith, ap, get_or}
+use Rattle.lemmas.specs.Single.{single_by}
 use Rattle.line.specs.declared.Refusal.TheVariants.{Long, Seat, Way, Name}
 use Rattle.journal.specs.Journal.{Reading, number, told}
 use Rattle.journal.specs.declared.Refusal.{Refusal}
@@ -21,7 +22,7 @@ refusal_back Room = refl
 refusal_back TextLong = refl
 
 pub refusal_single : (r s : Refusal) → number r ≡ number s → r ≡ s
-refusal_single r s h = sym (refusal_back r) ∙ ap refusal_at h ∙ refusal_back s
+refusal_single = single_by number refusal_at refusal_back
 
 -- each refusal has one of the numbers 21 to 26
 pub number_range : (r : Refusal) → (21 ≤ number r) × (number r ≤ 26)

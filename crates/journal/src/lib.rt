@@ -1,8 +1,8 @@
 #![tactic(auto)]
 // A journal: a text whose lines become event records. They are kept aside until the last line is good, so a refusal writes nothing.
-ghost use Rattle.std.specs.Prelude.{◌≡◌, ◌*◌, ◌≤◌, min, false, length};
+ghost use Rattle.std.specs.Prelude.{◌≡◌, ◌*◌, ◌≤◌, min, length};
 ghost use Rattle.line.specs.Grammar.{told as line_told};
-ghost use Rattle.journal.specs.Journal.{has_room, roomed, refusal_of, lines_from, lines, reading, area_after, Owed, number, told};
+ghost use Rattle.journal.specs.Journal.{has_room, roomed, lines_from, lines, reading, area_after, Answered, Owed, number, told};
 
 use line::Aids;
 use records::Event;
@@ -12,7 +12,7 @@ pub const TEXT_MOST: usize = 65536;
 // So short a text has at most as many events, for a line has a byte at least: the records need few bytes aside.
 const SHORT_TEXT: usize = 256;
 
-pub const EVENTS_MOST: usize = 4096;
+pub const EVENTS_MOST: usize = records::EVENTS_MOST;
 
 // Why a text gives no events.
 #[derive(Clone, Copy, Debug, PartialEq, Eq)]
@@ -47,7 +47,7 @@ impl Refusal {
     }
 }
 
-// A refusal with its line's number, counted from 1; 0 where it is of no line.
+// A refusal with its line's number, counted from 1. The reading's line is 0 where no line is refused, and so it is here.
 #[derive(Clone, Copy, Debug, PartialEq, Eq)]
 pub struct Refused {
     pub refusal: Refusal,
@@ -65,6 +65,7 @@ pub fn read(text: &[u8], area: &mut [u8]) -> Result<usize, Refused>
             line: 0,
         });
     }
+    // Four bytes for each event that the text can have.
     if text.len() <= SHORT_TEXT {
         read_aside::<1024>(text, area)
     } else {
@@ -94,13 +95,13 @@ fn read_lines(text: &[u8], area: usize, kept: &mut [u8], aids: &Aids) -> Result<
 {
     let mut rest = text;
     let mut n = 0;
+    // Each turn takes a line of its own length, which `next` finds, so there is no list of lines to walk over.
     while !rest.is_empty() {
         let next = line::next(rest, aids);
-        let (Ok(event), true) = (next.said, has_room(area, n)) else {
-            return Err(Refused {
-                refusal: refusal_of(next.said),
-                line: n + 1,
-            });
+        let said = roomed(next.said, has_room(area, n), n + 1);
+        // There is no event, so `map` gives the refusal as it is.
+        let Ok(event) = said else {
+            return said.map(|_| n);
         };
         records::put_event(kept, n, event);
         rest = &rest[next.size + 1..];
@@ -117,12 +118,19 @@ fn has_room(area: usize, n: usize) -> bool
     n < EVENTS_MOST && records::EVENT_SIZE * n + records::EVENT_SIZE <= area
 }
 
-// Why a line's event is not kept: the line says none, or there is no room for it.
-fn refusal_of(said: Result<Event, line::Refusal>) -> Refusal
-    ensures { number result ≡ refusal_of (roomed false (line_told said)) }
+// The event of a line by its number, where there is one and room for it.
+fn roomed(said: Result<Event, line::Refusal>, room: bool, line: usize) -> Result<Event, Refused>
+    ensures { Answered (roomed room (line_told said)) line result }
 {
     match said {
-        Ok(_) => Refusal::Room,
-        Err(refusal) => refusal.into(),
+        Ok(event) if room => Ok(event),
+        Ok(_) => Err(Refused {
+            refusal: Refusal::Room,
+            line,
+        }),
+        Err(refusal) => Err(Refused {
+            refusal: refusal.into(),
+            line,
+        }),
     }
 }

@@ -1,9 +1,7 @@
 #![tactic(auto)]
 // Reads journals from standard input, case after case, and prints what `journal::read` makes of each: `N R L C` (the case, the
 // refusal, its line and the event count) and `area` with the area's bytes. A case is the text's length and the area's, in four
-// little-endian bytes each, and the text. The area is filled with 165 before the call.
-
-const FILLED: u8 = 165;
+// little-endian bytes each, and the text. The area is filled with `show::FILLED` before the call.
 
 fn main() {
     let mut text = [0; 70000];
@@ -18,7 +16,7 @@ fn next_case(n: usize, text: &mut [u8], area: &mut [u8]) -> Option<()> {
     let text = text.get_mut(..text_size)?;
     let area = area.get_mut(..area_size)?;
     show::read_whole(text)?;
-    show::fill(area, FILLED);
+    show::fill(area, show::FILLED);
     answer(n, text, area);
     Some(())
 }

@@ -42,3 +42,9 @@ walk_end p m {n} {i} q l h k = let e : i ≡ m = omega arith in eq-eqb i n (omeg
 
 pub walk_left : (p : ℕ → Bool) (m : ℕ) {n i : ℕ} → n ≡ m → i < n → p i ≡ false → eqb i n ≡ every p m
 walk_left p m {n} {i} q l h = ne_eqb i n (λ e. omega arith) ∙ sym (every_bad p m i (omega arith) h)
+
+-- a walk that answers for each test that its rule tells, told that its rule tells p, and what else its count is called
+pub every_told : {says : ℕ → Bool → Type 0} {result : Bool} {n m : ℕ} (p : ℕ → Bool)
+    → ((q : ℕ → Bool) → ((i : ℕ) (r : Bool) → i < n → says i r → r ≡ q i) → result ≡ every q n)
+    → n ≡ m → ((i : ℕ) (r : Bool) → i < n → says i r → r ≡ p i) → result ≡ every p m
+every_told p walk e told = walk p told ∙ ap (every p) e

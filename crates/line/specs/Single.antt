@@ -1,7 +1,8 @@
 -- What a line says is determined by the grammar's answer: no two refusals have one number.
 -- Assumes nothing.
 use Rattle.std.specs.Prelude.{ℕ, ◌-◌, ◌≡◌, refl, Result, Ok, Err, [], ◌∷◌}
-use Rattle.std.proofs.Common.{sym, ◌∙◌, ap, get_or}
+use Rattle.std.proofs.Common.{ap, get_or}
+use Rattle.lemmas.specs.Single.{single_by}
 use Rattle.records.specs.declared.Event.{Event}
 use Rattle.line.specs.Grammar.{number, told}
 use Rattle.line.specs.declared.Refusal.{Refusal}
@@ -18,7 +19,7 @@ refusal_back Way = refl
 refusal_back Name = refl
 
 pub refusal_single : (r s : Refusal) → number r ≡ number s → r ≡ s
-refusal_single r s h = sym (refusal_back r) ∙ ap refusal_of h ∙ refusal_back s
+refusal_single = single_by number refusal_of refusal_back
 
 pub told_single : (a b : Result Event Refusal) → told a ≡ told b → a ≡ b
 told_single (Ok e) (Ok f) h = let k : e ≡ f = cc in ap Ok k

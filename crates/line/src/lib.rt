@@ -14,11 +14,11 @@ use records::Event;
 // A line with its newline.
 pub const LINE_MOST: usize = 26;
 
+pub const NEWLINE: u8 = b'\n';
+
+pub const SPACE: u8 = b' ';
+
 const SEAT_MOST: usize = 65535;
-
-const NEWLINE: u8 = b'\n';
-
-const SPACE: u8 = b' ';
 
 const ZERO: u8 = b'0';
 
@@ -36,14 +36,14 @@ pub enum Refusal {
 }
 
 // What digits say, and how many they are.
-#[derive(Clone, Copy)]
+#[derive(Clone, Copy, Debug, PartialEq, Eq)]
 struct Number {
     value: usize,
     size: usize,
 }
 
 // What a line says, and the place of its newline.
-#[derive(Clone, Copy)]
+#[derive(Clone, Copy, Debug, PartialEq, Eq)]
 pub struct NextLine {
     pub said: Result<Event, Refusal>,
     pub size: usize,
@@ -80,13 +80,10 @@ fn front_of(rest: &[u8]) -> &[u8]
     ensures front { result.now ≡ take line_most rest.now }
     ensures within { length result.now ≤ length rest.now }
 {
-    match rest.get(..LINE_MOST) {
-        Some(front) => front,
-        None => rest,
-    }
+    rest.get(..LINE_MOST).unwrap_or(rest)
 }
 
-// A line without its newline.
+// A line without its newline. It is taken apart by let .. else, here and below, and each field leaves with its refusal.
 #[tactic(auto, using(crate::proofs::Steps::field_steps))]
 fn fields(body: &[u8]) -> Result<Event, Refusal>
     ensures { told result ≡ fields_of body.now }

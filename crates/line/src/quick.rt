@@ -32,7 +32,7 @@ const SENT: u64 = 0x746e_6573;
 
 const LETTER_S: u64 = 115;
 
-// Places in the aids.
+// Places in the aids, which are one array: rows, guesses and masks as three take 2 to 5 in 100 more instructions for a full journal.
 const ROW_SIZE: usize = 16;
 
 const ROW_COUNT: u8 = 16;
@@ -48,7 +48,7 @@ const SPREAD: usize = 9;
 const MASKS: usize = 288;
 
 // A line that was found good, with the place of its newline.
-#[derive(Clone, Copy)]
+#[derive(Clone, Copy, Debug, PartialEq, Eq)]
 pub struct Found {
     pub event: Event,
     pub size: usize,
@@ -118,7 +118,7 @@ pub fn read(rest: &[u8], aids: &Aids) -> Option<Found>
         return None;
     }
     let guess = (letters + SPREAD * rest[end - 3] as usize) % GUESS_COUNT;
-    // A number, since a guess need be no message's: that it is one is known when its row has been compared.
+    // A number, since a guess need be no message's (rows 0 and 15 are none's): that it is one is known when its row has been compared.
     let message = aids.bytes[GUESSES + guess] % ROW_COUNT;
     if !is_name(rest, at, aids, message as usize, letters) {
         return None;

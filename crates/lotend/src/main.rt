@@ -3,7 +3,7 @@
 ghost use Rattle.std.specs.Prelude.{◌≡◌, length};
 ghost use Rattle.desk.specs.Theorems.{input_most};
 
-// The standard streams, by the numbers of the C interface, which `io` takes.
+// The standard streams, by the numbers of the C interface, which `io` takes. `show` is the gate's, and lotend stands on desk and io alone.
 const STDIN: i32 = 0;
 
 const STDOUT: i32 = 1;
@@ -17,8 +17,10 @@ fn main() {
 }
 
 // The longest book, the longest journal and one byte more: what comes after can't change the report (`read_enough`).
-fn input_space() -> [u8; 82441]
+const INPUT_MOST: usize = 82441;
+
+fn input_space() -> [u8; INPUT_MOST]
     ensures { input_most ≡ length result }
 {
-    [0; 82441]
+    [0; INPUT_MOST]
 }

@@ -18,10 +18,7 @@ pub extern "C" fn lotend_run(book: &mut [u8], events: &[u8], answers: &mut [u8])
     ensures book { book.new ≡ run_book book.old events.now answers.old }
     ensures answers { answers.new ≡ run_answers book.old events.now answers.old }
 {
-    match run::run(book, events, answers) {
-        Ok(()) => 0,
-        Err(refusal) => u32::from(refusal.number()),
-    }
+    u32::from(run::number_of(run::run(book, events, answers)))
 }
 
 #[unsafe(no_mangle)]

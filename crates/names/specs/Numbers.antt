@@ -1,8 +1,9 @@
 -- The number of each message and of each way, and what a field names as a number.
 -- Assumes nothing.
-use Rattle.std.specs.Prelude.{ℕ, Option, Some, None}
+use Rattle.std.specs.Prelude.{◌≡◌, ℕ, ◌<◌, ◌⊎◌, Option, Some, None, Result, MatchResult}
 use Rattle.names.specs.declared.Message.{Message}
 use Rattle.names.specs.declared.Message.TheVariants.{Cancel, Complete, Close, Compensate, Failed, Exited, NotCompleted, Exit, Completed, Fail, CannotComplete, Canceled, Closed, Compensated}
+use Rattle.names.specs.declared.NoMessage.{NoMessage}
 use Rattle.names.specs.declared.Way.{Way}
 use Rattle.names.specs.declared.Way.TheVariants.{Got, Sent}
 
@@ -34,3 +35,7 @@ message_told None = 0
 abbrev pub way_told : Option Way → ℕ
 way_told (Some w) = way_number w
 way_told None = 2
+
+-- the message that has a number, or an error with a number that none has
+abbrev pub MessageOf : ℕ → Result Message NoMessage → Type 0
+MessageOf n r = MatchResult r (λ m. message_number m ≡ n) (λ e. (e.0 ≡ n) × ((n ≡ 0) ⊎ (14 < n)))

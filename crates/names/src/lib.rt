@@ -2,7 +2,7 @@
 // The words of a journal: the names of messages and of ways, each compared with the whole of a field.
 ghost use Rattle.std.specs.Prelude.{◌≡◌};
 ghost use Rattle.names.specs.Names.{message_named, way_named, name_of, way_name};
-ghost use Rattle.names.specs.Numbers.{message_number, way_number, message_told, way_told};
+ghost use Rattle.names.specs.Numbers.{message_number, way_number, message_told, way_told, MessageOf};
 
 #[derive(Clone, Copy, Debug, PartialEq, Eq)]
 pub enum Message {
@@ -66,6 +66,37 @@ impl Message {
             Message::Canceled => b"Canceled",
             Message::Closed => b"Closed",
             Message::Compensated => b"Compensated",
+        }
+    }
+}
+
+// A number that is no message's.
+#[derive(Clone, Copy, Debug, PartialEq, Eq)]
+pub struct NoMessage(pub u8);
+
+// From a record's number.
+impl TryFrom<u8> for Message {
+    type Error = NoMessage;
+
+    ghost try_from_gives = { MessageOf };
+
+    fn try_from(number: u8) -> Result<Self, NoMessage> {
+        match number {
+            1 => Ok(Message::Cancel),
+            2 => Ok(Message::Complete),
+            3 => Ok(Message::Close),
+            4 => Ok(Message::Compensate),
+            5 => Ok(Message::Failed),
+            6 => Ok(Message::Exited),
+            7 => Ok(Message::NotCompleted),
+            8 => Ok(Message::Exit),
+            9 => Ok(Message::Completed),
+            10 => Ok(Message::Fail),
+            11 => Ok(Message::CannotComplete),
+            12 => Ok(Message::Canceled),
+            13 => Ok(Message::Closed),
+            14 => Ok(Message::Compensated),
+            _ => Err(NoMessage(number)),
         }
     }
 }

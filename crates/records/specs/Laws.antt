@@ -1,7 +1,8 @@
 -- What callers need of records: an area that is filled record by record.
 -- Assumes nothing.
 use Rattle.std.specs.Prelude.{ℕ, zero, suc, ◌+◌, ◌*◌, ◌≡◌, refl, List, [], ◌∷◌, ◌++◌, length, drop}
-use Rattle.std.proofs.Common.{arith, mul-suc, add-one, sym, ◌∙◌, append_assoc, append-nil, length-append, take_at, drop-drop}
+use Rattle.std.proofs.Common.{arith, mul-suc, add-one, ◌∙◌, append-nil, length-append, take_at, drop-drop}
+use Rattle.std.proofs.lemmas.Grind.{flat_map-append}
 use Rattle.std.proofs.Math.Seq.{drop-append-add}
 use Rattle.records.specs.Records.{placed, flat, event_at, first_events}
 
@@ -16,8 +17,7 @@ placed_next f l xs at h =
 
 module _ {R : Type 0} (bytes : R → List ℕ) where
   pub flat_append : (xs ys : List R) → flat bytes (xs ++ ys) ≡ flat bytes xs ++ flat bytes ys
-  flat_append [] ys = refl
-  flat_append (x ∷ xs) ys = rw (flat_append xs ys) (sym (append_assoc (bytes x) (flat bytes xs) (flat bytes ys)))
+  flat_append = flat_map-append bytes
 
   pub flat_one : (x : R) → flat bytes (x ∷ []) ≡ bytes x
   flat_one x = simp append-nil

@@ -1,6 +1,7 @@
 -- How numbers of 16 bits and records of four bytes stand in bytes.
 -- Assumes nothing.
 use Rattle.std.specs.Prelude.{ℕ, zero, suc, ◌+◌, ◌*◌, ◌/◌, ◌%◌, List, [], ◌∷◌, ◌++◌, length, get_or, take, drop}
+use Rattle.std.specs.List.{flat_map}
 use Rattle.records.specs.declared.Event.{Event}
 
 -- little-endian: the number of 16 bits at a place
@@ -13,8 +14,7 @@ placed l at xs = take at l ++ xs ++ drop (at + length xs) l
 
 -- the bytes of records, one after the other
 abbrev pub flat : {R : Type 0} → (R → List ℕ) → List R → List ℕ
-flat bytes [] = []
-flat bytes (r ∷ rs) = bytes r ++ flat bytes rs
+flat = flat_map
 
 -- an event is four bytes: seat (16 bits), way, message
 unfoldable pub event_at : List ℕ → ℕ → Event

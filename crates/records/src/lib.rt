@@ -5,6 +5,9 @@ ghost use Rattle.records.specs.Records.{at16, placed, event_at, event_bytes};
 
 pub const EVENT_SIZE: usize = 4;
 
+// As many as a run takes.
+pub const EVENTS_MOST: usize = 4096;
+
 #[derive(Clone, Copy, Debug, PartialEq, Eq)]
 pub struct Event {
     pub seat: usize,
@@ -46,13 +49,22 @@ pub fn u16_at(bytes: &[u8], at: usize) -> usize
     usize::from(u16::from_le_bytes([bytes[at], bytes[at + 1]]))
 }
 
-// Four bytes at a place.
+// Bytes at a place.
 #[tactic(auto, unfolding(crate::specs::Records::placed))]
+pub fn put(area: &mut [u8], at: usize, part: &[u8])
+    requires { at + length part.now ≤ length area.old }
+    ensures bytes { area.new ≡ placed area.old at part.now }
+    ensures size { length area.new ≡ length area.old }
+{
+    area[at..at + part.len()].copy_from_slice(part);
+}
+
+// Four bytes at a place.
 pub fn put_four(area: &mut [u8], at: usize, four: [u8; 4])
     requires { at + 4 ≤ length area.old }
     ensures { area.new ≡ placed area.old at four }
 {
-    area[at..at + 4].copy_from_slice(&four);
+    put(area, at, &four);
 }
 
 // Event `n` of a list.

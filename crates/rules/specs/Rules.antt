@@ -1,6 +1,6 @@
 -- What a seat answers to a message, for every role, table, way, message and state.
 -- Assumes nothing.
-use Rattle.std.specs.Prelude.{ℕ, Bool, true, false, cond, not, ◌&&◌, ◌||◌, ◌==◌, nat_le}
+use Rattle.std.specs.Prelude.{ℕ, List, [], ◌∷◌, get_or, Bool, true, false, cond, not, ◌&&◌, ◌||◌, ◌==◌, nat_le}
 use Rattle.rules.specs.declared.Entry.{Entry}
 use Rattle.rules.specs.declared.Entry.TheVariants.{Invalid, Ignore, Move, Forget, Reply}
 use Rattle.rules.specs.declared.Answer.{Answer}
@@ -44,6 +44,13 @@ entry_of role table way m s = cond (has_state role table s) (line_of role table 
 
 abbrev pub answer : ℕ → ℕ → ℕ → ℕ → Answer
 answer r s a m = record { refusal = r; state = s; action = a; reply = m }
+
+-- the four bytes of an answer, and the answer that four bytes are
+abbrev pub four_of : Answer → List ℕ
+four_of a = a.refusal ∷ a.state ∷ a.action ∷ a.reply ∷ []
+
+abbrev pub of_four : List ℕ → Answer
+of_four four = answer (get_or four 0 0) (get_or four 1 0) (get_or four 2 0) (get_or four 3 0)
 
 -- an entry in the outline's numbers, at a seat in state s: refusal, state after, action (0 none, 1 ignore, 2 reply, 3 forget), reply
 abbrev pub answer_of : Entry → ℕ → Answer

@@ -1,13 +1,15 @@
 -- Two results that a contract allows are equal, for each public function: each contract is an equation to a definition, or to the number of a direction.
 -- Assumes nothing.
-use Rattle.std.specs.Prelude.{◌≡◌, ℕ, Bool, Option, Some, None, refl}
-use Rattle.std.proofs.Common.{sym, ◌∙◌, arith}
+use Rattle.std.specs.Prelude.{◌≡◌, ℕ, Bool, Option, Some, None, refl, [], ◌∷◌}
+use Rattle.std.proofs.Common.{sym, ◌∙◌, get_or}
+use Rattle.lemmas.specs.Single.{single_by}
 use Rattle.rules.specs.declared.Entry.{Entry}
 use Rattle.rules.specs.declared.Answer.{Answer}
+use Rattle.rules.specs.declared.Refusal.{Refusal}
 use Rattle.rules.specs.declared.Direction.{Direction}
 use Rattle.rules.specs.declared.Direction.TheVariants.{Close, Compensate}
-use Rattle.rules.specs.Codes.{direction_number}
-use Rattle.rules.specs.Rules.{has_state, moves, entry_of, answer_of, legal}
+use Rattle.rules.specs.Codes.{refusal_number, direction_number}
+use Rattle.rules.specs.Rules.{has_state, moves, entry_of, answer, answer_of, legal}
 use Rattle.rules.specs.Outcome.{asked_by}
 use Rattle.rules.specs.Place.{place_of, entry_at}
 use Rattle.rules.specs.Marks.{marked_in, suiting_marks}
@@ -16,16 +18,17 @@ pub one_result : {A : Type 0} {x r r' : A} → r ≡ x → r' ≡ x → r ≡ r'
 one_result p q = p ∙ sym q
 
 -- no two directions have one number
+unfoldable direction_of : ℕ → Option Direction
+direction_of n = get_or (None ∷ Some Close ∷ Some Compensate ∷ []) n None
+
+direction_back : (r : Option Direction) → direction_of (direction_number r) ≡ r
+unfolding direction_of
+direction_back None = refl
+direction_back (Some Close) = refl
+direction_back (Some Compensate) = refl
+
 pub same_direction : (r r' : Option Direction) → direction_number r ≡ direction_number r' → r ≡ r'
-same_direction None None e = refl
-same_direction None (Some Close) e = absurd (omega arith)
-same_direction None (Some Compensate) e = absurd (omega arith)
-same_direction (Some Close) None e = absurd (omega arith)
-same_direction (Some Close) (Some Close) e = refl
-same_direction (Some Close) (Some Compensate) e = absurd (omega arith)
-same_direction (Some Compensate) None e = absurd (omega arith)
-same_direction (Some Compensate) (Some Close) e = absurd (omega arith)
-same_direction (Some Compensate) (Some Compensate) e = refl
+same_direction = single_by direction_number direction_of direction_back
 
 module _ (role table way m s : ℕ) (e : Entry) where
   pub has_state_single : (r r' : Bool) → r ≡ has_state role table s → r' ≡ has_state role table s → r ≡ r'
@@ -39,6 +42,9 @@ module _ (role table way m s : ℕ) (e : Entry) where
 
   pub answer_of_single : (r r' : Answer) → r ≡ answer_of e s → r' ≡ answer_of e s → r ≡ r'
   answer_of_single r r' = one_result
+
+  pub refused_single : (f : Refusal) (r r' : Answer) → r ≡ answer (refusal_number f) s 0 0 → r' ≡ answer (refusal_number f) s 0 0 → r ≡ r'
+  refused_single f r r' = one_result
 
   pub place_single : (r r' : ℕ) → r ≡ place_of role table s → r' ≡ place_of role table s → r ≡ r'
   place_single r r' = one_result

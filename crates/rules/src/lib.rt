@@ -6,8 +6,8 @@ pub mod state;
 ghost use Rattle.std.specs.Prelude.{◌≡◌, ◌<◌, slice_index};
 ghost use Rattle.rules.specs.Parts.{end_of, late_of, ends_of, again_of};
 ghost use Rattle.rules.specs.Tables.{coordinator_receives, coordinator_sends, participant_receives, participant_sends};
-ghost use Rattle.rules.specs.Rules.{has_state, entry_of, moves, answer, answer_of, legal};
-ghost use Rattle.rules.specs.Codes.{action_number, direction_number};
+ghost use Rattle.rules.specs.Rules.{has_state, entry_of, moves, answer, answer_of, four_of, of_four, legal};
+ghost use Rattle.rules.specs.Codes.{action_number, refusal_number, direction_number};
 ghost use Rattle.rules.specs.Outcome.{asked_by};
 ghost use Rattle.rules.specs.Place.{place_of, entry_at};
 ghost use Rattle.rules.specs.Marks.{marked_in, suiting_marks};
@@ -49,7 +49,7 @@ pub enum Direction {
     Compensate = 2,
 }
 
-// An answer in the outline's numbers: the four bytes that C gets. An answer is read from any bytes, so its fields are numbers.
+// An answer in the outline's numbers: the four bytes that C gets. `run::read_answer` reads one from any bytes, so its fields are numbers.
 #[derive(Clone, Copy, Debug, PartialEq, Eq)]
 pub struct Answer {
     pub refusal: u8,
@@ -58,7 +58,29 @@ pub struct Answer {
     pub reply: u8,
 }
 
-// An answer's refusal where there is none.
+impl From<[u8; 4]> for Answer {
+    ghost from_gives = { λ four a. a ≡ of_four four };
+
+    fn from(four: [u8; 4]) -> Answer {
+        let [refusal, state, action, reply] = four;
+        Answer {
+            refusal,
+            state,
+            action,
+            reply,
+        }
+    }
+}
+
+impl From<Answer> for [u8; 4] {
+    ghost from_gives = { λ a four. four ≡ four_of a };
+
+    fn from(a: Answer) -> [u8; 4] {
+        [a.refusal, a.state, a.action, a.reply]
+    }
+}
+
+// An answer's refusal where there is none. An answer's refusal may be any byte (see `Answer`), so it is a number.
 pub const GOOD: u8 = 0;
 
 // An activity's direction where it has none. A book's byte may be any, so it is a number.
@@ -133,6 +155,7 @@ fn again(split: bool, at: u8, home: u8) -> Entry
 }
 
 // Matches on message numbers and state ranges, for any message. The table is one bit of a place, so the four rules are told it by a `bool`.
+// Each of the four asks `s < 16` for itself: each is one table, and a seat's state is a place's low four bits.
 #[tactic(auto, unfolding(crate::specs::Tables::coordinator_receives))]
 fn coordinator_receives(split: bool, m: u8, s: u8) -> Entry
     requires { s < 16 }
@@ -358,15 +381,15 @@ fn participant_sends(split: bool, m: u8, s: u8) -> Entry
     }
 }
 
-// Whether a role, a table and a state have their bit among 64 marks: bit 32 role + 16 table + state, counted from the first role and
-// table. The three are looked at as one number, for a walk over seats has no time for three.
-// Here and below they are three arguments: a seat has them beside its activity, so a struct of three would be made for the call alone.
+// Whether a role, a table and a state have their bit among 64 marks: bit 32 role + 16 table + state, counted from the first of each.
+// The three are looked at as one number, for a walk over seats has no time for three.
+// Here, in `has_state`, `place` and `entry_at` they stay arguments: a seat holds more, so a struct of them would be made for calls alone.
 #[tactic(auto, using(crate::proofs::Places::marking))]
 pub fn marked(marks: u64, role: u8, table: u8, s: u8) -> bool
     ensures { result ≡ marked_in marks role table s }
 {
     let three = role as u64 + 256 * (table as u64) + 65536 * (s as u64);
-    let x = std::num::wrapping_sub_u64(three, FIRSTS);
+    let x = three.wrapping_sub(FIRSTS);
     if (x % 256 <= 1) & (x / 256 % 256 <= 1) & (x < 1048576) {
         let at = x * SPREAD / 65536 % 64;
         return (marks >> at) % 2 == 1;
@@ -382,7 +405,8 @@ pub fn has_state(role: u8, table: u8, s: u8) -> bool
     marked(STATES, role, table, s)
 }
 
-// The states that a seat of an atomic activity with that direction may have. A book's direction may be any byte, so it is a number here.
+// The states that a seat of an atomic activity with that direction may have.
+// It answers for any direction: `suiting_marks` says so for every number, and a narrower type would ask more of callers.
 pub fn suiting(direction: u8) -> u64
     ensures { result ≡ suiting_marks direction }
 {
@@ -403,13 +427,14 @@ pub fn place(role: u8, table: u8, s: u8) -> u64
 }
 
 // A message that goes some way has one of 32 rows, if it has any. They are counted from the message `CANCELED`.
+// Way and message stay arguments, here and below: an event holds a seat too, so a struct of the two would be made for calls alone.
 fn row(way: u8, m: u8) -> u64
     ensures { result ≡ row_of way m }
 {
     (2 * (m as u64) + way as u64 + 8) % 32
 }
 
-// 0 for a way and a message that have a row, else more.
+// 0 for a way and a message that have a row, else more: so `beyond < mark` asks both, whether there is a row and whether its mark is 1.
 fn beyond(way: u8, m: u8) -> u64
     ensures { result ≡ beyond_rows way m }
 {
@@ -423,11 +448,7 @@ const MOVED: [u64; 3] = [0, 0x55aa_a815, 0xaa55_542a];
 fn moved_marks(role: u8) -> u64
     ensures { result ≡ moved_marks role }
 {
-    if role <= PARTICIPANT {
-        MOVED[role as usize]
-    } else {
-        0
-    }
+    MOVED.get(role as usize).copied().unwrap_or(0)
 }
 
 // Whether a role moves a message that way.
@@ -483,23 +504,19 @@ pub fn is_listed(place: u64, way: u8, m: u8) -> bool
 }
 
 // What the tables' lines say at a place, be it a state's or not.
+// A place is one number below 64, as `is_listed` takes it: so a run asks a seat for its role, table and state once.
 #[tactic(auto, unfolding(crate::specs::Place::entry_at, crate::specs::Rules::line_of))]
 pub fn placed_entry(place: u64, way: u8, m: u8) -> Entry
     ensures { result ≡ entry_at place way m }
 {
     let split = place / 16 % 2 == 1;
     let s = (place % 16) as u8;
-    match way {
-        RECEIVED => if place / 32 % 2 == 0 {
-            coordinator_receives(split, m, s)
-        } else {
-            participant_receives(split, m, s)
-        },
-        SENT => if place / 32 % 2 == 0 {
-            coordinator_sends(split, m, s)
-        } else {
-            participant_sends(split, m, s)
-        },
+    let coordinator = place / 32 % 2 == 0;
+    match (way, coordinator) {
+        (RECEIVED, true) => coordinator_receives(split, m, s),
+        (RECEIVED, false) => participant_receives(split, m, s),
+        (SENT, true) => coordinator_sends(split, m, s),
+        (SENT, false) => participant_sends(split, m, s),
         _ => Entry::Invalid,
     }
 }
@@ -515,18 +532,27 @@ pub fn entry_at(role: u8, table: u8, way: u8, m: u8, s: u8) -> Entry
     placed_entry(place(role, table, s), way, m)
 }
 
+impl Refusal {
+    // The answer to a refused event, at a seat in state `state`.
+    pub fn answer(self, state: u8) -> Answer
+        ensures { result ≡ answer (refusal_number self) state 0 0 }
+    {
+        Answer {
+            refusal: self as u8,
+            state,
+            action: Action::None as u8,
+            reply: 0,
+        }
+    }
+}
+
 impl Entry {
     // An entry in the outline's numbers, at a seat in state `s`.
     pub fn answer(self, s: u8) -> Answer
         ensures { result ≡ answer_of self s }
     {
         match self {
-            Entry::Invalid => Answer {
-                refusal: Refusal::InvalidState as u8,
-                state: s,
-                action: Action::None as u8,
-                reply: 0,
-            },
+            Entry::Invalid => Refusal::InvalidState.answer(s),
             Entry::Ignore => done(s, Action::Ignore, 0),
             Entry::Move(next) => done(next, Action::None, 0),
             Entry::Forget(next) => done(next, Action::Forget, 0),

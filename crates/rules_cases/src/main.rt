@@ -1,8 +1,8 @@
 #![tactic(auto)]
 // Prints what `rules` answers: every place of the tables, then roles, tables, ways, messages and states out of range too.
-ghost use Rattle.std.specs.Prelude.{◌<◌, length};
-
-use rules::{Answer, Direction};
+use rules::{
+    Answer, COORDINATOR, Direction, PARTICIPANT, PLAIN, RECEIVED, SENT, SPLIT, message, state,
+};
 use show::{line_end, number, space, text};
 
 // What is asked of, some of it out of range.
@@ -16,13 +16,19 @@ const MESSAGES: [u8; 19] = [
     0, 1, 2, 3, 4, 5, 6, 7, 8, 9, 10, 11, 12, 13, 14, 15, 16, 128, 255,
 ];
 
-// An answer for each way, message and state.
-const ANSWERS: usize = 19456;
+// An answer's bytes: there is one for each state, as many for each message, and as many for each way.
+const ANSWER_SIZE: usize = 4;
+
+const MESSAGE_SIZE: usize = ANSWER_SIZE * 256;
+
+const WAY_SIZE: usize = MESSAGE_SIZE * MESSAGES.len();
+
+const ANSWERS_SIZE: usize = WAY_SIZE * WAYS.len();
 
 fn main() {
     tables();
-    let mut area = [0; 4 * ANSWERS];
-    for_pairs(&TABLES, |role, table| legal_count(role, table, &mut area));
+    let mut area = [0; ANSWERS_SIZE];
+    for_pairs(&TABLES, |role, table| all_answers(role, table, &mut area));
     for_pairs(&TABLES, |role, table| {
         listing(b"states ", role, table, rules::has_state)
     });
@@ -30,17 +36,24 @@ fn main() {
         listing(b"moves ", role, way, rules::moves_message)
     });
     directions(b"needed:", needed_by);
-    directions(b"asked:", asked_by);
+    directions(b"asked:", rules::direction_asked);
 }
 
 // Each role with each table or way.
 fn for_pairs<F: FnMut(u8, u8)>(others: &[u8], mut visit: F)
-    requires callable { F.IsAlwaysCallable visit }
-    requires few { length others.now < 256 }
+    requires { F.IsAlwaysCallable visit }
 {
-    let count = others.len();
-    for i in 0..ROLES.len() * count {
-        visit(ROLES[i / count], others[i % count]);
+    for role in ROLES {
+        for_others(role, others, &mut visit);
+    }
+}
+
+fn for_others<F: FnMut(u8, u8)>(role: u8, others: &[u8], visit: &mut F)
+    requires { F.IsAlwaysCallable visit.old }
+    ensures { F.IsAlwaysCallable visit.new }
+{
+    for other in others {
+        visit(role, *other);
     }
 }
 
@@ -61,8 +74,26 @@ fn answer(role: u8, table: u8, way: u8, m: u8, s: u8) -> Answer {
 
 // Every role, table, way and message of the paper: a line of the states 1 to 15.
 fn tables() {
-    for i in 0..112 {
-        row(i / 56 + 1, i / 28 % 2 + 1, i / 14 % 2, i % 14 + 1);
+    for role in [COORDINATOR, PARTICIPANT] {
+        tables_of(role);
+    }
+}
+
+fn tables_of(role: u8) {
+    for table in [PLAIN, SPLIT] {
+        ways_of(role, table);
+    }
+}
+
+fn ways_of(role: u8, table: u8) {
+    for way in [RECEIVED, SENT] {
+        messages_of(role, table, way);
+    }
+}
+
+fn messages_of(role: u8, table: u8, way: u8) {
+    for m in message::CANCEL..=message::COMPENSATED {
+        row(role, table, way, m);
     }
 }
 
@@ -73,7 +104,7 @@ fn row(role: u8, table: u8, way: u8, m: u8) {
     space();
     byte(m);
     text(b":");
-    for s in 1..=15 {
+    for s in state::ACTIVE..=state::LAST {
         dotted(answer(role, table, way, m, s));
     }
     line_end();
@@ -91,20 +122,42 @@ fn dotted(a: Answer) {
 }
 
 // How many places are legal, and the sum of all answers.
-fn legal_count(role: u8, table: u8, area: &mut [u8; 4 * ANSWERS]) {
-    let mut legal: usize = 0;
-    for i in 0..ANSWERS {
-        let way = WAYS[i / 4864];
-        let a = answer(role, table, way, MESSAGES[i / 256 % 19], (i % 256) as u8);
-        legal += usize::from(a.refusal == rules::GOOD);
-        records::put_four(area, 4 * i, [a.refusal, a.state, a.action, a.reply]);
-    }
+fn all_answers(role: u8, table: u8, area: &mut [u8]) {
+    put_ways(role, table, area);
     pair(b"legal ", role, table);
     space();
-    number(legal);
+    number(legal_count(area));
     space();
     show::sum(area);
     line_end();
+}
+
+// The bytes of all answers: ways, messages and states, each in order.
+fn put_ways(role: u8, table: u8, area: &mut [u8]) {
+    for (way, part) in WAYS.into_iter().zip(area.chunks_mut(WAY_SIZE)) {
+        put_messages(role, table, way, part);
+    }
+}
+
+fn put_messages(role: u8, table: u8, way: u8, area: &mut [u8]) {
+    for (m, part) in MESSAGES.into_iter().zip(area.chunks_mut(MESSAGE_SIZE)) {
+        put_states(role, table, way, m, part);
+    }
+}
+
+fn put_states(role: u8, table: u8, way: u8, m: u8, area: &mut [u8]) {
+    let (records, _) = area.as_chunks_mut::<ANSWER_SIZE>();
+    for (s, record) in (0..=255).zip(records) {
+        *record = answer(role, table, way, m, s).into();
+    }
+}
+
+fn legal_count(area: &[u8]) -> usize {
+    let (records, _) = area.as_chunks::<ANSWER_SIZE>();
+    records
+        .iter()
+        .filter(|record| Answer::from(**record).refusal == rules::GOOD)
+        .count()
 }
 
 // A line of the states or messages that a test of a role and one thing more has.
@@ -123,52 +176,32 @@ fn listing<F: Fn(u8, u8, u8) -> bool>(title: &[u8], role: u8, other: u8, has: F)
 }
 
 // A line of what has a direction, each with its own.
-fn directions<F: Fn(u8) -> u8>(title: &[u8], direction_of: F)
+fn directions<F: Fn(u8) -> Option<Direction>>(title: &[u8], direction_of: F)
     requires { F.IsAlwaysCallable direction_of }
 {
     text(title);
     for n in 0..=255 {
-        directed(n, direction_of(n));
+        if let Some(direction) = direction_of(n) {
+            space();
+            byte(n);
+            text(b".");
+            byte(direction as u8);
+        }
     }
     line_end();
 }
 
-fn directed(n: u8, direction: u8) {
-    if direction != rules::DIRECTION_NONE {
-        space();
-        byte(n);
-        text(b".");
-        byte(direction);
-    }
-}
-
 // Whether a coordinator of an atomic activity with that direction may be in that state.
 fn suits(direction: u8, s: u8) -> bool {
-    rules::marked(
-        rules::suiting(direction),
-        rules::COORDINATOR,
-        rules::SPLIT,
-        s,
-    )
+    rules::marked(rules::suiting(direction), COORDINATOR, SPLIT, s)
 }
 
-// The direction that a state needs: it suits that one, and not none. What is no state needs none; a state that suited none would show.
-fn needed_by(s: u8) -> u8 {
-    if !rules::has_state(rules::COORDINATOR, rules::SPLIT, s) {
-        return rules::DIRECTION_NONE;
+// The direction that a state needs: one that it suits, unless it suits an activity without. What is no state suits neither.
+fn needed_by(s: u8) -> Option<Direction> {
+    if suits(rules::DIRECTION_NONE, s) {
+        return None;
     }
-    for direction in [
-        rules::DIRECTION_NONE,
-        Direction::Close as u8,
-        Direction::Compensate as u8,
-    ] {
-        if suits(direction, s) {
-            return direction;
-        }
-    }
-    255
-}
-
-fn asked_by(m: u8) -> u8 {
-    rules::direction_asked(m).map_or(rules::DIRECTION_NONE, |direction| direction as u8)
+    [Direction::Close, Direction::Compensate]
+        .into_iter()
+        .find(|direction| suits(*direction as u8, s))
 }

@@ -1,7 +1,8 @@
 -- What a run returns is determined by its number: no two refusals have one number, and none has 0.
 -- Assumes nothing.
 use Rattle.std.specs.Prelude.{ℕ, ◌≡◌, refl, Result, Ok, Err, [], ◌∷◌}
-use Rattle.std.proofs.Common.{sym, ◌∙◌, ap, get_or}
+use Rattle.std.proofs.Common.{get_or}
+use Rattle.lemmas.specs.Single.{single_by}
 use Rattle.book.specs.declared.Refusal.TheVariants.{Short, Layout, Activity, Seat, SeatDirection}
 use Rattle.run.specs.Codes.{number_of}
 use Rattle.run.specs.declared.Refusal.{Refusal}
@@ -23,4 +24,4 @@ worked_back (Err EventList) = refl
 worked_back (Err AnswerArea) = refl
 
 pub worked_single : (a b : Result (Unit {0}) Refusal) → number_of a ≡ number_of b → a ≡ b
-worked_single a b h = sym (worked_back a) ∙ ap worked h ∙ worked_back b
+worked_single = single_by number_of worked worked_back

@@ -1,10 +1,10 @@
 -- One event: its answer, refusals 11 to 15 in order, and the book after it.
 -- Assumes nothing.
-use Rattle.std.specs.Prelude.{Bool, cond, not, ◌&&◌, ℕ, ◌+◌, ◌*◌, List, [], ◌∷◌, get_or, ltb, leb, eqb}
+use Rattle.std.specs.Prelude.{Bool, cond, not, ◌&&◌, ℕ, ◌+◌, ◌*◌, List, get_or, ltb, leb, eqb}
 use Rattle.records.specs.declared.Event.{Event}
 use Rattle.rules.specs.declared.Answer.{Answer}
 use Rattle.rules.specs.Numbers.{sent, coordinator}
-use Rattle.rules.specs.Rules.{moves, entry_of, answer_of, answer}
+use Rattle.rules.specs.Rules.{moves, entry_of, answer_of, answer, four_of}
 use Rattle.rules.specs.Outcome.{asked_by}
 use Rattle.book.specs.declared.Activity.{Activity}
 use Rattle.book.specs.declared.Seat.{Seat}
@@ -74,7 +74,7 @@ book_after b e =
 
 -- an answer is four bytes: refusal, state after, action, reply
 abbrev pub answer_bytes : Answer → List ℕ
-answer_bytes a = a.refusal ∷ a.state ∷ a.action ∷ a.reply ∷ []
+answer_bytes = four_of
 
 unfoldable pub answer_at : List ℕ → ℕ → Answer
 answer_at l n = answer (get_or l (4 * n) 0) (get_or l (4 * n + 1) 0) (get_or l (4 * n + 2) 0) (get_or l (4 * n + 3) 0)

@@ -6,13 +6,13 @@ ghost use Rattle.rules.specs.Codes.{refusal_number, direction_number};
 ghost use Rattle.book.specs.Layout.{activity_count, seat_count, activity_of, seat_of, moved, Shaped};
 ghost use Rattle.book.specs.Book.{book_refusal};
 ghost use Rattle.run.specs.declared.Refusal.TheVariants.{Book};
-ghost use Rattle.run.specs.Step.{refused, known, unlisted_number, wanted, clashes, turned, answer_to, book_after, answer_bytes, answer_at};
+ghost use Rattle.run.specs.Step.{known, unlisted_number, wanted, clashes, turned, answer_to, book_after, answer_bytes, answer_at};
 ghost use Rattle.run.specs.Run.{after, filled, run_refusal, run_book, run_answers};
 ghost use Rattle.run.specs.Codes.{number, number_of};
 
 use book::{Activity, Book};
 use records::Event;
-use rules::{Action, Answer, Direction};
+use rules::{Answer, Direction};
 
 // Why a run is refused: what is wrong with its book, or with its list or its area.
 #[derive(Clone, Copy, Debug, PartialEq, Eq)]
@@ -43,22 +43,18 @@ impl From<book::Refusal> for Refusal {
     }
 }
 
-pub const EVENTS_MOST: usize = 4096;
+// The number of a run's result, as C gets it: 0 where nothing is refused.
+pub fn number_of(worked: Result<(), Refusal>) -> u8
+    ensures { result ≡ number_of worked }
+{
+    worked.err().map_or(0, Refusal::number)
+}
+
+pub const EVENTS_MOST: usize = records::EVENTS_MOST;
 
 pub const ANSWER_SIZE: usize = 4;
 
-fn refuse(refusal: rules::Refusal, state: u8) -> Answer
-    ensures { result ≡ refused (refusal_number refusal) state }
-{
-    Answer {
-        refusal: refusal as u8,
-        state,
-        action: Action::None as u8,
-        reply: 0,
-    }
-}
-
-// Whether a way and a message are the outline's.
+// Whether a way and a message are the outline's. The two stay arguments here and below, as in `rules::row`.
 #[tactic(auto, unfolding(crate::specs::Step::known))]
 fn is_known(way: u8, m: u8) -> bool
     ensures { result ≡ known way m }
@@ -124,18 +120,18 @@ fn step(book: &mut [u8], e: Event) -> Answer
     let view = Book::of(book);
     let n = e.seat;
     if view.seat_count() <= n {
-        return refuse(rules::Refusal::NoSeat, 0);
+        return rules::Refusal::NoSeat.answer(0);
     }
     let x = view.seat(n);
     let place = rules::place(x.role, x.table, x.state);
     if !rules::is_listed(place, e.way, e.message) {
-        return refuse(unlisted(x.role, e.way, e.message), x.state);
+        return unlisted(x.role, e.way, e.message).answer(x.state);
     }
     let k = x.activity;
     let y = view.activity(k);
     let asks = want(y, x.role, e.way, e.message);
     if clash(y.direction, asks) {
-        return refuse(rules::Refusal::Outcome, x.state);
+        return rules::Refusal::Outcome.answer(x.state);
     }
     let entry = rules::placed_entry(place, e.way, e.message);
     let q = entry.answer(x.state);
@@ -143,33 +139,30 @@ fn step(book: &mut [u8], e: Event) -> Answer
     q
 }
 
-// Answer `n` of an area. Its bytes are named here and in `put_answer`: a `From` of four bytes would have these two calls alone.
+// Answer `n` of an area.
 #[tactic(auto, unfolding(crate::specs::Step::answer_at))]
 pub fn read_answer(answers: &[u8], n: usize) -> Answer
     requires { 4 * n + 4 ≤ length answers.now }
     ensures { result ≡ answer_at answers.now n }
 {
     let at = ANSWER_SIZE * n;
-    Answer {
-        refusal: answers[at],
-        state: answers[at + 1],
-        action: answers[at + 2],
-        reply: answers[at + 3],
-    }
+    Answer::from([
+        answers[at],
+        answers[at + 1],
+        answers[at + 2],
+        answers[at + 3],
+    ])
 }
 
 fn put_answer(area: &mut [u8], n: usize, a: Answer)
     requires { 4 * n + 4 ≤ length area.old }
     ensures { area.new ≡ placed area.old (4 * n) (answer_bytes a) }
 {
-    records::put_four(
-        area,
-        ANSWER_SIZE * n,
-        [a.refusal, a.state, a.action, a.reply],
-    );
+    records::put_four(area, ANSWER_SIZE * n, a.into());
 }
 
 // The first `count` events of a list, at a good book.
+// That it is good is a clause, here and at `step`: the book is lent bytes, and each turn keeps them good (`still_good`).
 #[tactic(auto, using(crate::proofs::Turns::still_good, crate::proofs::Turns::turn_book, crate::proofs::Turns::turn_area))]
 fn work(book: &mut [u8], events: &[u8], area: &mut [u8], count: usize)
     requires book_value { book_refusal book.old ≡ 0 }

@@ -1,9 +1,7 @@
 #![tactic(auto)]
 // Reads runs from standard input, case after case, and prints what `run::run` makes of each: `N R` (the case and the refusal), `book`
 // and `answers` with the bytes afterwards. A case is the lengths of book, events and answer area, in four little-endian bytes each,
-// then the book and the events. The area is filled with 165 before the call.
-
-const FILLED: u8 = 165;
+// then the book and the events. The area is filled with `show::FILLED` before the call.
 
 fn main() {
     let mut book = [0; 20000];
@@ -22,16 +20,13 @@ fn next_case(n: usize, book: &mut [u8], events: &mut [u8], area: &mut [u8]) -> O
     let area = area.get_mut(..area_size)?;
     show::read_whole(book)?;
     show::read_whole(events)?;
-    show::fill(area, FILLED);
+    show::fill(area, show::FILLED);
     answer(n, book, events, area);
     Some(())
 }
 
 fn answer(n: usize, book: &mut [u8], events: &[u8], area: &mut [u8]) {
-    let refusal = match run::run(book, events, area) {
-        Ok(()) => 0,
-        Err(refusal) => refusal.number(),
-    };
+    let refusal = run::number_of(run::run(book, events, area));
     show::number(n);
     show::space();
     show::number(usize::from(refusal));

@@ -8,10 +8,13 @@ ghost use Rattle.show.specs.Adler.{adler};
 ghost use Rattle.show.specs.Cases.{Worked};
 ghost use Rattle.show.specs.Shown.{shown};
 
-// The standard streams, by the numbers of the C interface, which `io` takes.
+// The standard streams, by the numbers of the C interface, which `io` takes. `lotend` has its own: it stands on nothing of the gate.
 const STDIN: i32 = 0;
 
 const STDOUT: i32 = 1;
+
+// What an area has before a case is worked, so that what is written there can be seen.
+pub const FILLED: u8 = 165;
 
 // More cases than an input has: nothing says that an input ends.
 const CASES_MOST: usize = 1000000;
@@ -33,6 +36,7 @@ pub fn cases<F: FnMut(usize) -> Option<()>>(mut case: F)
 }
 
 // The 32-bit number that the input goes on with. None where it ends before.
+// By `u32_at`, whose contract says which number four bytes are: no contract can say what the input has.
 pub fn read_size() -> Option<usize>
     ensures { IfSome result (λ n. n < 4294967296) }
 {
@@ -123,7 +127,7 @@ pub fn adler32(part: &[u8]) -> u32
     high * 65536 + low
 }
 
-// The 32-bit number at a place, the lowest byte first.
+// The 32-bit number at a place, the lowest byte first. No `From` makes a `usize` of a `u32`, or a `u64` of a `usize`: so `as`, twice.
 #[tactic(auto, unfolding(records::specs::Records::at16))]
 pub fn u32_at(head: &[u8], at: usize) -> usize
     requires { at + 4 ≤ length head.now }
@@ -133,7 +137,7 @@ pub fn u32_at(head: &[u8], at: usize) -> usize
     u32::from_le_bytes([head[at], head[at + 1], head[at + 2], head[at + 3]]) as usize
 }
 
-// Every byte of an area becomes the value, so that what is written there later can be seen.
+// Every byte of an area becomes the value: `fill` of slices, with an equation for each byte.
 pub fn fill(area: &mut [u8], value: u8)
     ensures size { length area.new ≡ length area.old }
     ensures each { (k : ℕ) → k < length area.old → get_or area.new k 0 ≡ value }

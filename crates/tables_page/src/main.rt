@@ -1,7 +1,7 @@
 #![tactic(auto)]
 // Prints docs/TABLES.md: the four tables, plain and split, as the proved rules have them.
 use names::Message;
-use rules::Entry;
+use rules::{Entry, state};
 use show::{number, space, text};
 
 fn main() {
@@ -11,94 +11,115 @@ fn main() {
     text(
         b"and `-` is Invalid State, refusal 14. This page is what the program `tables_page` prints.\n",
     );
-    for i in 0..8 {
-        page(i / 4 + rules::COORDINATOR, i / 2 % 2, i % 2 + rules::PLAIN);
+    for role in [rules::COORDINATOR, rules::PARTICIPANT] {
+        pages_of(role);
     }
 }
 
-fn page(role: u8, way: u8, table: u8) {
-    heading(role, way, table);
-    text(b"\n\n| message |");
-    for_states(role, table, |s| column(role, s));
-    text(b"\n|---|");
-    for_states(role, table, |_| {
-        text(b"---|");
-    });
-    text(b"\n");
-    for message in Message::ALL {
-        if rules::moves_message(role, way, message.number()) {
-            row(role, way, table, message);
+fn pages_of(role: u8) {
+    for way in [rules::RECEIVED, rules::SENT] {
+        tables_of(role, way);
+    }
+}
+
+fn tables_of(role: u8, way: u8) {
+    for table in [rules::PLAIN, rules::SPLIT] {
+        Page { role, way, table }.print();
+    }
+}
+
+// What a role does with the messages of a way, plain or split.
+#[derive(Clone, Copy, Debug, PartialEq, Eq)]
+struct Page {
+    role: u8,
+    way: u8,
+    table: u8,
+}
+
+impl Page {
+    fn print(self) {
+        self.heading();
+        text(b"\n\n| message |");
+        self.for_states(|s| self.column(s));
+        text(b"\n|---|");
+        self.for_states(|_| {
+            text(b"---|");
+        });
+        text(b"\n");
+        for message in Message::ALL {
+            if rules::moves_message(self.role, self.way, message.number()) {
+                self.row(message);
+            }
         }
     }
-}
 
-fn heading(role: u8, way: u8, table: u8) {
-    text(b"\n## ");
-    match role {
-        rules::COORDINATOR => text(b"Coordinator "),
-        _ => text(b"Participant "),
-    };
-    match way {
-        rules::SENT => text(b"sends, "),
-        _ => text(b"receives, "),
-    };
-    match table {
-        rules::SPLIT => text(b"split table"),
-        _ => text(b"plain table"),
-    };
-}
+    fn heading(self) {
+        text(b"\n## ");
+        match self.role {
+            rules::COORDINATOR => text(b"Coordinator "),
+            _ => text(b"Participant "),
+        };
+        match self.way {
+            rules::SENT => text(b"sends, "),
+            _ => text(b"receives, "),
+        };
+        match self.table {
+            rules::SPLIT => text(b"split table"),
+            _ => text(b"plain table"),
+        };
+    }
 
-// The states of a role under a table, in order.
-fn for_states<F: FnMut(u8)>(role: u8, table: u8, mut visit: F)
-    requires { F.IsAlwaysCallable visit }
-{
-    for s in 1..=15 {
-        if rules::has_state(role, table, s) {
-            visit(s);
+    // The role's states in the table, in order.
+    fn for_states<F: FnMut(u8)>(self, mut visit: F)
+        requires { F.IsAlwaysCallable visit }
+    {
+        for s in state::ACTIVE..=state::LAST {
+            if rules::has_state(self.role, self.table, s) {
+                visit(s);
+            }
         }
     }
-}
 
-fn column(role: u8, s: u8) {
-    space();
-    number(usize::from(s));
-    space();
-    text(state_name(role, s));
-    text(b" |");
-}
-
-fn state_name(role: u8, s: u8) -> &'static [u8] {
-    match (role, s) {
-        (_, 1) => b"Active",
-        (rules::COORDINATOR, 2) => b"Canceling-Active",
-        (_, 2) => b"Canceling",
-        (_, 3) => b"Canceling-Completing",
-        (_, 4) => b"Completing",
-        (_, 5) => b"Completed",
-        (_, 6) => b"Closing",
-        (_, 7) => b"Compensating",
-        (_, 8) => b"Failing",
-        (_, 9) => b"Failing-Compensating",
-        (_, 10) => b"NotCompleting",
-        (_, 11) => b"Exiting",
-        (_, 12) => b"Ended",
-        (rules::COORDINATOR, 13) => b"Ended-Failed",
-        (rules::COORDINATOR, 14) => b"Ended-Exited",
-        (rules::COORDINATOR, _) => b"Ended-NotCompleted",
-        (_, 13) => b"Ended-Canceled",
-        (_, 14) => b"Ended-Closed",
-        (_, _) => b"Ended-Compensated",
+    fn column(self, s: u8) {
+        space();
+        number(usize::from(s));
+        space();
+        text(self.state_name(s));
+        text(b" |");
     }
-}
 
-fn row(role: u8, way: u8, table: u8, message: Message) {
-    text(b"| ");
-    text(message.name());
-    text(b" |");
-    for_states(role, table, |s| {
-        cell(rules::entry_at(role, table, way, message.number(), s))
-    });
-    text(b"\n");
+    fn state_name(self, s: u8) -> &'static [u8] {
+        match (self.role, s) {
+            (_, state::ACTIVE) => b"Active",
+            (rules::COORDINATOR, state::CANCELING) => b"Canceling-Active",
+            (_, state::CANCELING) => b"Canceling",
+            (_, state::CANCELING_COMPLETING) => b"Canceling-Completing",
+            (_, state::COMPLETING) => b"Completing",
+            (_, state::COMPLETED) => b"Completed",
+            (_, state::CLOSING) => b"Closing",
+            (_, state::COMPENSATING) => b"Compensating",
+            (_, state::FAILING) => b"Failing",
+            (_, state::FAILING_COMPENSATING) => b"Failing-Compensating",
+            (_, state::NOT_COMPLETING) => b"NotCompleting",
+            (_, state::EXITING) => b"Exiting",
+            (_, state::ENDED) => b"Ended",
+            (rules::COORDINATOR, state::ENDED_FAILED) => b"Ended-Failed",
+            (rules::COORDINATOR, state::ENDED_EXITED) => b"Ended-Exited",
+            (rules::COORDINATOR, _) => b"Ended-NotCompleted",
+            (_, state::ENDED_CANCELED) => b"Ended-Canceled",
+            (_, state::ENDED_CLOSED) => b"Ended-Closed",
+            (_, _) => b"Ended-Compensated",
+        }
+    }
+
+    fn row(self, message: Message) {
+        text(b"| ");
+        text(message.name());
+        text(b" |");
+        let m = message.number();
+        self.for_states(|s| cell(rules::entry_at(self.role, self.table, self.way, m, s)));
+        text(b"\n");
+    }
 }
 
 fn cell(e: Entry) {
@@ -121,18 +142,10 @@ fn cell(e: Entry) {
         }
         Entry::Reply(m) => {
             text(b" reply ");
-            text(message_name(m));
+            if let Ok(message) = Message::try_from(m) {
+                text(message.name());
+            }
             text(b" |");
         }
     }
-}
-
-// The name of the message that has a number.
-fn message_name(m: u8) -> &'static [u8] {
-    for message in Message::ALL {
-        if message.number() == m {
-            return message.name();
-        }
-    }
-    b""
 }

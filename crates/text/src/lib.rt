@@ -1,10 +1,10 @@
 #![tactic(auto)]
 // Text written into a lent area: bytes, words and numbers, one after the other.
 ghost use Rattle.std.specs.Prelude.{[], ◌∷◌, ◌++◌, ◌+◌, ◌≤◌, ◌<◌, length, ◌≡◌};
-ghost use Rattle.text.specs.Text.{decimal, digit as digit_of, digits_most, number_most, field_most};
+ghost use Rattle.text.specs.Text.{decimal, digits_most, number_most, field_most};
 ghost use Rattle.text.specs.Page.{HasRoom, Wrote};
 
-// An area, and how many of its first bytes are written. What is written stays: each method adds to it.
+// An area, and how many of its first bytes are written: lent bytes, as there is no heap. What is written stays: each method adds to it.
 #[derive(Drop)]
 pub struct Page<'a> {
     pub area: &'a mut [u8],
@@ -29,18 +29,14 @@ impl Page<'_> {
         self.size = end;
     }
 
-    // A number of at most five digits, in decimal. A formatter of std may fail for want of room, and here the room is known.
-    #[tactic(auto, using(crate::specs::Laws::decimal_one))]
+    // A number of at most five digits, in decimal.
+    #[tactic(auto, using(crate::specs::Std::std_decimal_is, crate::specs::Laws::decimal_most))]
     pub fn number(&mut self, n: usize)
         requires { (n < number_most) × HasRoom self.old digits_most }
         ensures text { Wrote self.old (decimal n) self.new }
         ensures most { self.new.size ≤ self.old.size + digits_most }
     {
-        if n < 10 {
-            return self.byte(digit(n));
-        }
-        self.number(n / 10);
-        self.byte(digit(n % 10));
+        self.word(itoa::Buffer::new().format(n).as_bytes());
     }
 
     // A number and the byte that ends its field.
@@ -52,11 +48,4 @@ impl Page<'_> {
         self.number(n);
         self.byte(end);
     }
-}
-
-fn digit(n: usize) -> u8
-    requires { n < 10 }
-    ensures { result ≡ digit_of n }
-{
-    b'0' + (n as u8)
 }

@@ -14,10 +14,14 @@ pub loop-number-preserved : goal.loop-number-preserved
 loop-number-preserved c =
     let v = c.loop-number.invariant in
     let w = wrote_next v.text (wrote_next c.byte.ensures c.number.ensures.text) in
-    record { text = wrote_same (spaced_more c.args.numbers.now c.loop-number.number-index (omega arith)) w; most = omega (arith, v.most, c.byte.ensures.put.end, c.number.ensures.most) }
+    record {
+      text = wrote_same (spaced_more c.args.numbers.now c.loop-number.number-index (omega arith)) w;
+      most = omega (arith, v.most, c.byte.ensures.put.end, c.number.ensures.most);
+    }
 
 pub returns-clause-text : goal.returns-clause-text
 unfolding ending
 returns-clause-text c =
     let ns = c.args.numbers.now in
-    wrote_same (ap (λ l. spaced l ++ (newline ∷ [])) (take_all c.loop-number.number-index ns (omega arith))) (wrote_next c.loop-number.invariant.text c.byte-2.ensures)
+    wrote_same (ap (λ l. spaced l ++ (newline ∷ [])) (take_all c.loop-number.number-index ns (omega arith)))
+    (wrote_next c.loop-number.invariant.text c.byte-2.ensures)

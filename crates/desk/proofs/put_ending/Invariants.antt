@@ -8,4 +8,7 @@ use Rattle.desk.proofs.put_ending.Given as goal
 
 abbrev pub invariant-loop-number : goal.invariant-loop-number
 invariant-loop-number l =
-    record { text : Wrote l.initial.page (spaced (take l.number-index l.numbers)) l.page; most : l.page.size ≤ l.initial.page.size + field_most * l.number-index }
+    record {
+      text : Wrote l.initial.page (spaced (take l.number-index l.numbers)) l.page;
+      most : l.page.size ≤ l.initial.page.size + field_most * l.number-index;
+    }

@@ -29,11 +29,13 @@ loop-i-preserved c =
     let v = c.loop-i.invariant in
     let i = c.loop-i.i in
     let p = c.put_event.ensures in
-    let e = (λ j. event_lines 1 (first_events ev i) (first_answers i an) ++ event_line (i + 1) (c.read_event.ensures j) (c.read_answer.ensures j)) ∙ next_line ev an i (omega arith) in
+    let lines = event_lines 1 (first_events ev i) (first_answers i an) in
+    let e = (λ j. lines ++ event_line (i + 1) (c.read_event.ensures j) (c.read_answer.ensures j)) ∙ next_line ev an i (omega arith) in
     record { text = wrote_same e (wrote_next v.text p.text); most = omega (arith, v.most, p.most) }
 
 pub returns : goal.returns
 returns c =
     let v = c.loop-i.invariant in
     let e : c.loop-i.i ≡ length c.args.events.now / 4 = omega arith in
-    record { text = wrote_same (ap (λ n. event_lines 1 (first_events c.args.events.now n) (first_answers n c.args.answers.now)) e) v.text; most = omega (arith, v.most) }
+    let all = ap (λ n. event_lines 1 (first_events c.args.events.now n) (first_answers n c.args.answers.now)) e in
+    record { text = wrote_same all v.text; most = omega (arith, v.most) }

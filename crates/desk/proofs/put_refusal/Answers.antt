@@ -15,4 +15,5 @@ returns-in-Journal c =
     let r = c.in-Journal.r in
     let line = wrote_next c.word-in-Journal.ensures c.put_ending-in-Journal.ensures.text in
     rw c.in-Journal.is
-    (wrote_same (refused_line_parts _ r.line ∙ ap (λ (n : ℕ). refused_line n r.line) c.number.ensures) (wrote_next c.word.ensures (wrote_next c.byte.ensures (wrote_next c.field.ensures.text line))))
+    (wrote_same (refused_line_parts _ r.line ∙ ap (λ (n : ℕ). refused_line n r.line) c.number.ensures)
+    (wrote_next c.word.ensures (wrote_next c.byte.ensures (wrote_next c.field.ensures.text line))))

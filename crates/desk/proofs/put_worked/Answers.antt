@@ -9,12 +9,15 @@ use Rattle.desk.proofs.put_worked.Goals as goal
 
 pub of-requires : goal.of-requires
 of-requires c =
-    let n = c.requires.events_len in subst Shaped (sym c.run.ensures.book) (run_shaped c.args.book.now c.args.events.now _ c.requires.good n.0 n.1 (omega arith))
+    let n = c.requires.events_len in
+    subst Shaped (sym c.run.ensures.book) (run_shaped c.args.book.now c.args.events.now _ c.requires.good n.0 n.1 (omega arith))
 
 pub returns-clause-text : goal.returns-clause-text
 returns-clause-text c =
     let n = c.requires.events_len in
-    wrote_same (run_listed c.args.book.now c.args.events.now _ c.requires.good n.0 n.1 (omega arith) (c.of.ensures ∙ c.run.ensures.book) c.run.ensures.area) c.put_listing.ensures
+    wrote_same
+    (run_listed c.args.book.now c.args.events.now _ c.requires.good n.0 n.1 (omega arith) (c.of.ensures ∙ c.run.ensures.book) c.run.ensures.area)
+    c.put_listing.ensures
 
 pub returns-clause-book : goal.returns-clause-book
 returns-clause-book c =

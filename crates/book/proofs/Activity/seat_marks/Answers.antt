@@ -1,20 +1,8 @@
--- Each number has the marks of its activities (`marks_by_lem`).
+-- A number that is none of the first three has the marks of a mixed activity (`marks_by_lem`); `marks_are` is the attribute's.
 -- Assumes nothing.
-use Rattle.std.proofs.Common.{◌+◌, ◌*◌, ◌%◌, ◌≢◌, sym, ap, ◌∙◌, ne_eqb, arith}
-use Rattle.book.specs.Marks.{marks_by, marks_by_lem}
+use Rattle.std.proofs.Common.{◌+◌, ◌*◌, ◌%◌, ◌≢◌, sym, ◌∙◌, ne_eqb, arith}
+use Rattle.book.specs.Marks.{marks_by_lem}
 use Rattle.book.proofs.Activity.seat_marks.Goals as goal
-
-pub returns-in-0 : goal.returns-in-0
-returns-in-0 c =
-    c.suiting.ensures ∙ sym (ap marks_by c.in-0.is) ∙ marks_by_lem _ _ c.requires
-
-pub returns-in-1 : goal.returns-in-1
-returns-in-1 c =
-    c.suiting-in-1.ensures ∙ sym (ap marks_by c.in-1.is) ∙ marks_by_lem _ _ c.requires
-
-pub returns-in-2 : goal.returns-in-2
-returns-in-2 c =
-    c.suiting-in-2.ensures ∙ sym (ap marks_by c.in-2.is) ∙ marks_by_lem _ _ c.requires
 
 pub returns-in_default : goal.returns-in_default
 returns-in_default c =

@@ -18,7 +18,8 @@ walk-preserved c =
     let is_y = c.activity-y.ensures in (
       v.0,
       every_more _ _ v.1 (sym (ap (λ (y : Activity). activity_good y.kind y.direction) is_y) ∙ sym c.is_good.ensures ∙ c.if-not-is_good.false),
-      marked_more c.args.self.now c.walk.k c.seat_marks.result c.walk.marks (omega arith) (c.seat_marks.ensures ∙ ap (λ (y : Activity). seat_marks y.kind y.direction) is_y) v.2,
+      marked_more c.args.self.now c.walk.k c.seat_marks.result c.walk.marks (omega arith)
+          (c.seat_marks.ensures ∙ ap (λ (y : Activity). seat_marks y.kind y.direction) is_y) v.2,
     )
 
 pub returns-after-walk-clause-value : goal.returns-after-walk-clause-value

@@ -1,6 +1,0 @@
--- The measure is the number.
--- Assumes nothing.
-use Rattle.text.proofs.Page.+number.Given as goal
-
-abbrev pub decreases-number : goal.decreases-number
-decreases-number l = l.n
