@@ -70,7 +70,7 @@ impl<'a> Model for Book<'a> {
     ghost invariant = { λ book. Shaped book.bytes.now };
 }
 
-// Kinds of activities, by the numbers that a book says.
+// Kinds of activities, by the numbers that a book says. Its byte may be any, so they are numbers, as in `Activity`.
 pub const ATOMIC: u8 = 1;
 
 pub const MIXED: u8 = 2;
@@ -243,7 +243,7 @@ impl<'a> Book<'a> {
         Head { bytes: self.bytes }
     }
 
-    // How many activities, and how many seats, it has.
+    // How many activities, and how many seats, it has: as many as a book may have, where a header alone may say any numbers (`most`).
     pub fn activity_count(&self) -> usize
         ensures value { result ≡ activity_count self.now }
         ensures most { result ≤ most_activities }
@@ -392,7 +392,7 @@ impl<'a> Book<'a> {
     }
 
     // Every activity is one that the rules allow, and then the marks of each one's seats stand at its number.
-    // The outline's form: a labelled walk, left at the first record that breaks the rule. It writes as it goes, so it is no `holds_for_all`.
+    // The outline's form: a labelled walk, left at the first record that breaks the rule. It writes as it goes: no `holds_for_all`.
     fn fill_marks(&self, marks: &mut [u64]) -> Result<(), Refusal>
         requires { Marked self.now 0 marks.old }
         ensures value { number_of result ≡ activities_refusal self.now }
@@ -429,7 +429,8 @@ pub fn put_state(book: &mut [u8], n: usize, state: u8)
     book[from + SEAT_SIZE * n + 3] = state;
 }
 
-// Activity `k` with another direction. One function for both stores would take the place, which these two alone know.
+// Activity `k` with another direction, any number as in `put_outcome`.
+// One function for both stores would take the place, which these two alone know.
 #[tactic(auto, unfolding(crate::specs::Layout::put_direction))]
 fn put_direction(book: &mut [u8], k: usize, direction: u8)
     requires shaped { Shaped book.old }
@@ -439,7 +440,7 @@ fn put_direction(book: &mut [u8], k: usize, direction: u8)
     book[HEAD_SIZE + ACTIVITY_SIZE * k + 1] = direction;
 }
 
-// Seat `n`, of activity `k`, in another state, and that activity with another direction.
+// Seat `n`, of activity `k`, in another state, and that activity with another direction: two numbers, as `moved` is of any.
 pub fn put_outcome(book: &mut [u8], n: usize, k: usize, state: u8, direction: u8)
     requires shaped { Shaped book.old }
     requires n_bound { n < seat_count book.old }

@@ -44,6 +44,7 @@ fn put_event(page: &mut Page, n: usize, event: Event, answer: Answer)
     ensures most { page.new.size ≤ page.old.size + event_line_most }
 {
     page.number(n);
+    // Bytes are widened by `as`, here and in sums and indices elsewhere: `usize::from` around each would say no more.
     put_ending(
         page,
         &[
@@ -59,6 +60,7 @@ fn put_event(page: &mut Page, n: usize, event: Event, answer: Answer)
 }
 
 // A line for each event, with its answer: their records stand in the areas that a run takes, so both are read by their number.
+// `run::work` goes the same way and writes the answers: a function for both walks would be the `for` alone.
 fn put_events(page: &mut Page, events: &[u8], answers: &[u8])
     requires events_len_bound { (length events.now ≤ records_most) × (length events.now ≤ length answers.now) }
     requires room { HasRoom page.old (event_line_most * (length events.now / 4)) }
@@ -86,7 +88,8 @@ fn put_seats(page: &mut Page, book: &Book)
     }
 }
 
-// The listing of a book after its events. Here and below room for a whole report is asked: a least room of each one's own would be a number more.
+// The listing of a book after its events. The room is no invariant of a page, as each write takes some of it.
+// Here and below room for a whole report is asked: a least room of each one's own would be a number more.
 fn put_listing(page: &mut Page, book: &Book, events: &[u8], answers: &[u8])
     requires events_len_bound { (length events.now ≤ records_most) × (length events.now ≤ length answers.now) }
     requires room { HasRoom page.old report_most }

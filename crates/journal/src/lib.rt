@@ -65,7 +65,7 @@ pub fn read(text: &[u8], area: &mut [u8]) -> Result<usize, Refused>
             line: 0,
         });
     }
-    // Four bytes for each event that the text can have.
+    // Four bytes for each event that the text can have: numerals, as a const argument is not computed.
     if text.len() <= SHORT_TEXT {
         read_aside::<1024>(text, area)
     } else {
@@ -88,7 +88,7 @@ fn read_aside<const N: usize>(text: &[u8], area: &mut [u8]) -> Result<usize, Ref
     Ok(count)
 }
 
-// Reads line after line and keeps the events, until one is refused or the text ends.
+// Reads line after line and keeps the events, until one is refused or the text ends: a buffer and a count, as there is no heap.
 fn read_lines(text: &[u8], area: usize, kept: &mut [u8], aids: &Aids) -> Result<usize, Refused>
     requires { 4 * min (length text.now) 4096 ≤ length kept.old }
     ensures { Owed (lines_from area 0 (lines text.now)) (told result) kept.new area }
@@ -99,7 +99,7 @@ fn read_lines(text: &[u8], area: usize, kept: &mut [u8], aids: &Aids) -> Result<
     while !rest.is_empty() {
         let next = line::next(rest, aids);
         let said = roomed(next.said, has_room(area, n), n + 1);
-        // There is no event, so `map` gives the refusal as it is.
+        // The outline's form: a parsed line is taken apart by let .. else. There is no event, so `map` gives the refusal as it is.
         let Ok(event) = said else {
             return said.map(|_| n);
         };

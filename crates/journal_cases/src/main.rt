@@ -22,6 +22,7 @@ fn next_case(n: usize, text: &mut [u8], area: &mut [u8]) -> Option<()> {
 }
 
 fn answer(n: usize, text: &[u8], area: &mut [u8]) {
+    // Three numbers to print, as `lotend_c` makes them for C in C's widths: `journal` answers a `Result`.
     let (refusal, line, count) = match journal::read(text, area) {
         Ok(count) => (0, 0, count),
         Err(refused) => (refused.refusal.number(), refused.line, 0),

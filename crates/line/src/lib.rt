@@ -35,7 +35,7 @@ pub enum Refusal {
     Name = 24,
 }
 
-// What digits say, and how many they are.
+// What digits say, and how many they are. One type for this, `NextLine` and `quick::Found` would call a number and an event alike.
 #[derive(Clone, Copy, Debug, PartialEq, Eq)]
 struct Number {
     value: usize,
@@ -83,7 +83,7 @@ fn front_of(rest: &[u8]) -> &[u8]
     rest.get(..LINE_MOST).unwrap_or(rest)
 }
 
-// A line without its newline. It is taken apart by let .. else, here and below, and each field leaves with its refusal.
+// A line without its newline. The outline's form, here and below: it is taken apart by let .. else, each field with its refusal.
 #[tactic(auto, using(crate::proofs::Steps::field_steps))]
 fn fields(body: &[u8]) -> Result<Event, Refusal>
     ensures { told result ≡ fields_of body.now }

@@ -32,7 +32,8 @@ const SENT: u64 = 0x746e_6573;
 
 const LETTER_S: u64 = 115;
 
-// Places in the aids, which are one array: rows, guesses and masks as three take 2 to 5 in 100 more instructions for a full journal.
+// Places in the aids. They are one array, since `aid_bytes` says all of their bytes; rows, guesses and masks as three arrays also take
+// 2 to 5 in 100 more instructions for a full journal.
 const ROW_SIZE: usize = 16;
 
 const ROW_COUNT: u8 = 16;
@@ -47,7 +48,7 @@ const SPREAD: usize = 9;
 // Sixteen bytes of ones and then sixteen of zeros: a mask of n bytes begins 16 - n bytes on.
 const MASKS: usize = 288;
 
-// A line that was found good, with the place of its newline.
+// A line that was found good, with the place of its newline. `next` makes it a `NextLine`, which may hold a refusal: here is none.
 #[derive(Clone, Copy, Debug, PartialEq, Eq)]
 pub struct Found {
     pub event: Event,
@@ -57,6 +58,7 @@ pub struct Found {
 // What lines are compared with, made once for a text: a row for each message, then which one to guess, then the masks.
 #[derive(Drop)]
 pub struct Aids {
+    // 256 bytes of rows, 32 of guesses and 32 of masks: `aid_bytes`.
     pub bytes: [u8; 320],
     ghost made: { bytes ≡ aid_bytes },
 }
@@ -67,7 +69,7 @@ impl Aids {
         for message in Message::ALL {
             put_row(&mut bytes, message);
         }
-        put(
+        records::put(
             &mut bytes,
             GUESSES,
             b"\x07\x01\0\0\0\0\0\0\0\0\0\0\x03\x0a\0\0\0\x0d\x05\x04\x0c\x02\0\0\0\0\x06\x0b\x08\x09\0\x0e",
@@ -84,17 +86,9 @@ fn put_row(aids: &mut [u8], message: Message)
 {
     let name = message.name();
     let at = ROW_SIZE * message.number() as usize;
-    put(aids, at, name);
+    records::put(aids, at, name);
     aids[at + name.len()] = NEWLINE;
     aids[at + 15] = name.len() as u8;
-}
-
-fn put(aids: &mut [u8], at: usize, part: &[u8])
-    requires { at + length part.now ≤ length aids.old }
-    ensures bytes { aids.new ≡ placed aids.old at part.now }
-    ensures size { length aids.new ≡ length aids.old }
-{
-    aids[at..at + part.len()].copy_from_slice(part);
 }
 
 // The line that the text begins with, where it is found good. A guess is only where to look: each byte of the line is compared.

@@ -29,6 +29,7 @@ pub extern "C" fn lotend_read_journal(text: &[u8], events: &mut [u8]) -> Reading
     ensures count { result.count ≡ (reading text.now (length events.old)).count }
     ensures bytes { events.new ≡ area_after text.now events.old }
 {
+    // C gets three numbers, where `journal` answers a `Result`. By `as`: both fit (`small_line`, `small_count`).
     match journal::read(text, events) {
         Ok(count) => Reading {
             refusal: 0,

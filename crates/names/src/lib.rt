@@ -4,6 +4,7 @@ ghost use Rattle.std.specs.Prelude.{◌≡◌};
 ghost use Rattle.names.specs.Names.{message_named, way_named, name_of, way_name};
 ghost use Rattle.names.specs.Numbers.{message_number, way_number, message_told, way_told, MessageOf};
 
+// By the numbers of `rules::message`, which are numbers there since any byte is matched.
 #[derive(Clone, Copy, Debug, PartialEq, Eq)]
 pub enum Message {
     Cancel = 1,
@@ -40,14 +41,14 @@ impl Message {
         Message::Compensated,
     ];
 
-    // As a record has it.
+    // As a record has it: by name, since `u8::from` would not say at a call which number is meant.
     pub fn number(self) -> u8
         ensures { result ≡ message_number self }
     {
         self as u8
     }
 
-    // As a journal spells it.
+    // As a journal spells it: bytes and no `Display`, since a field of a journal is compared with it.
     pub fn name(self) -> &'static [u8]
         ensures { result.now ≡ name_of (message_number self) }
     {
@@ -101,6 +102,7 @@ impl TryFrom<u8> for Message {
     }
 }
 
+// By the numbers of `rules::RECEIVED` and `rules::SENT`, which are numbers there since any byte may be a way.
 #[derive(Clone, Copy, Debug, PartialEq, Eq)]
 pub enum Way {
     Got = 0,
@@ -108,14 +110,14 @@ pub enum Way {
 }
 
 impl Way {
-    // As a record has it.
+    // As a record has it: by name, since `u8::from` would not say at a call which number is meant.
     pub fn number(self) -> u8
         ensures { result ≡ way_number self }
     {
         self as u8
     }
 
-    // As a journal spells it.
+    // As a journal spells it: bytes and no `Display`, since a field of a journal is compared with it.
     pub fn name(self) -> &'static [u8]
         ensures { result.now ≡ way_name (way_number self) }
     {

@@ -8,6 +8,7 @@ pub const EVENT_SIZE: usize = 4;
 // As many as a run takes.
 pub const EVENTS_MOST: usize = 4096;
 
+// Way and message are numbers, as a list may hold any byte and a run answers each.
 #[derive(Clone, Copy, Debug, PartialEq, Eq)]
 pub struct Event {
     pub seat: usize,
@@ -39,7 +40,7 @@ impl From<Event> for [u8; EVENT_SIZE] {
     }
 }
 
-// The 16-bit number at a place, the lower byte first.
+// The 16-bit number at a place, the lower byte first. No trait joins the widths' `from_le_bytes`: `show` has 32 bits, `words` 64.
 #[tactic(auto, unfolding(crate::specs::Records::at16))]
 pub fn u16_at(bytes: &[u8], at: usize) -> usize
     requires { at + 2 ≤ length bytes.now }
@@ -67,7 +68,7 @@ pub fn put_four(area: &mut [u8], at: usize, four: [u8; 4])
     put(area, at, &four);
 }
 
-// Event `n` of a list.
+// Event `n` of a list. That it is there is a clause, also where it is put and at answers: lists and areas are lent bytes of any length.
 #[tactic(auto, unfolding(crate::specs::Records::event_at, crate::specs::Records::at16))]
 pub fn read_event(events: &[u8], n: usize) -> Event
     requires { 4 * n + 4 ≤ length events.now }

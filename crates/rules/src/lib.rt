@@ -110,7 +110,7 @@ const STATES_TO_CLOSE: u64 = 0xfff6_1ff6_fd7e_1d7e;
 
 const STATES_TO_COMPENSATE: u64 = 0xfff6_1ff6_ffbe_1fbe;
 
-// What takes role, table and state, a byte each, to the number of their bit, 16 bits up: states stand there, tables go 12 bits on and roles 21.
+// What takes role, table and state, a byte each, to the number of their bit, 16 bits up: states stay, tables go 12 bits on, roles 21.
 const SPREAD: u64 = 0x20_1001;
 
 // The first role and the first table, as they stand in that number.

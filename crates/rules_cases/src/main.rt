@@ -16,6 +16,7 @@ const MESSAGES: [u8; 19] = [
     0, 1, 2, 3, 4, 5, 6, 7, 8, 9, 10, 11, 12, 13, 14, 15, 16, 128, 255,
 ];
 
+// As `run::ANSWER_SIZE`: this program asks `rules` alone and stands on no run.
 // An answer's bytes: there is one for each state, as many for each message, and as many for each way.
 const ANSWER_SIZE: usize = 4;
 
@@ -73,6 +74,7 @@ fn answer(role: u8, table: u8, way: u8, m: u8, s: u8) -> Answer {
 }
 
 // Every role, table, way and message of the paper: a line of the states 1 to 15.
+// Each walk adds one of them to the arguments, so a struct of them would be made anew at each.
 fn tables() {
     for role in [COORDINATOR, PARTICIPANT] {
         tables_of(role);
@@ -191,7 +193,7 @@ fn directions<F: Fn(u8) -> Option<Direction>>(title: &[u8], direction_of: F)
     line_end();
 }
 
-// Whether a coordinator of an atomic activity with that direction may be in that state.
+// Whether a coordinator of an atomic activity with that direction may be in that state: a number, as `rules::suiting` takes any.
 fn suits(direction: u8, s: u8) -> bool {
     rules::marked(rules::suiting(direction), COORDINATOR, SPLIT, s)
 }

@@ -85,7 +85,7 @@ fn want(y: Activity, role: u8, way: u8, m: u8) -> Option<Direction>
     None
 }
 
-// Whether the activity has one direction and the other is asked for.
+// Whether the activity has one direction and the other is asked for. `clashes` is of any byte of a book, so the first is a number.
 #[tactic(auto, unfolding(crate::specs::Step::clashes))]
 fn clash(direction: u8, want: Option<Direction>) -> bool
     ensures { result ≡ clashes direction (direction_number want) }
@@ -139,7 +139,7 @@ fn step(book: &mut [u8], e: Event) -> Answer
     q
 }
 
-// Answer `n` of an area.
+// Answer `n` of an area. One function for events too would promise by `From` alone, so `read_event` and this one would still stand.
 #[tactic(auto, unfolding(crate::specs::Step::answer_at))]
 pub fn read_answer(answers: &[u8], n: usize) -> Answer
     requires { 4 * n + 4 ≤ length answers.now }
@@ -161,7 +161,8 @@ fn put_answer(area: &mut [u8], n: usize, a: Answer)
     records::put_four(area, ANSWER_SIZE * n, a.into());
 }
 
-// The first `count` events of a list, at a good book.
+// The first `count` events of a list, at a good book. Events and answers are records in lent bytes, so both go by their number.
+// The count is handed on, since `run` has judged it: a length would be divided again.
 // That it is good is a clause, here and at `step`: the book is lent bytes, and each turn keeps them good (`still_good`).
 #[tactic(auto, using(crate::proofs::Turns::still_good, crate::proofs::Turns::turn_book, crate::proofs::Turns::turn_area))]
 fn work(book: &mut [u8], events: &[u8], area: &mut [u8], count: usize)

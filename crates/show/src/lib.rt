@@ -46,7 +46,9 @@ pub fn read_size() -> Option<usize>
 }
 
 // All that a part holds, from the input. None where it ends before.
-pub fn read_whole(part: &mut [u8]) -> Option<()> {
+pub fn read_whole(part: &mut [u8]) -> Option<()>
+    ensures { length part.new ≡ length part.old }
+{
     (io::read_full(STDIN, part) == part.len()).then_some(())
 }
 
@@ -67,6 +69,7 @@ pub fn number(n: usize) -> usize
     text(&digits[..k])
 }
 
+// A space and a line's end have names of their own, since the programs print them at many places.
 pub fn space() -> usize
     ensures { result ≡ 1 }
 {

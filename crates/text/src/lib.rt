@@ -30,6 +30,7 @@ impl Page<'_> {
     }
 
     // A number of at most five digits, in decimal.
+    // That it has no more is a clause, here and in `desk`: a type of such numbers would be made for each call.
     #[tactic(auto, using(crate::specs::Std::std_decimal_is, crate::specs::Laws::decimal_most))]
     pub fn number(&mut self, n: usize)
         requires { (n < number_most) × HasRoom self.old digits_most }

@@ -3,7 +3,7 @@
 ghost use Rattle.std.specs.Prelude.{◌≡◌, ◌+◌, ◌≤◌, ◌<◌, length, get_or};
 ghost use Rattle.words.specs.Words.{word_at};
 
-// The 64-bit number at a place, the lowest byte first.
+// The 64-bit number at a place, the lowest byte first: a function of its own, as `records::u16_at` says.
 #[tactic(auto, using(crate::specs::Laws::word_at_lem))]
 pub fn u64_at(bytes: &[u8], at: usize) -> u64
     requires { at + 8 ≤ length bytes.now }
