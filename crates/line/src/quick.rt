@@ -64,7 +64,9 @@ pub struct Aids {
 }
 
 impl Aids {
-    pub fn new() -> Aids {
+    pub fn new() -> Aids
+        ensures { result.bytes ≡ aid_bytes }
+    {
         let mut bytes = [255; 320];
         for message in Message::ALL {
             put_row(&mut bytes, message);
