@@ -1,18 +1,31 @@
--- Two results that a contract allows are equal, for the public functions of the crates that this page does not name below. Each contract is an equation to a definition of
--- the arguments: the result, and for a function that writes also the bytes afterwards. (The tables' functions: rules/specs/Single; a
--- run: `run_single`; a journal: `read_single`; the program's text: desk.)
+-- Two results that a contract allows are equal, for the public functions of the crates that this page does not name below. Each
+-- contract is an equation to a definition of the arguments, or to the bytes that are lent: the result (a name, a header, a book: its
+-- bytes), and for a function that writes also the bytes afterwards. So is what a conversion gives. (The tables' other functions:
+-- rules/specs/Single; a run: `run_single`; a journal: `read_single`; the program's text: desk. Where a contract tells a result by its
+-- number or by a choice, that two of one number are one thing: specs/Single of its crate.)
 -- Assumes nothing.
-use Rattle.std.specs.Prelude.{◌≡◌, List, [], ◌∷◌, ℕ, ◌*◌, take}
+use Rattle.std.specs.Prelude.{◌≡◌, Result, List, [], ◌∷◌, ℕ, ◌*◌, take}
 use Rattle.records.specs.declared.Event.{Event}
 use Rattle.records.specs.Records.{at16, placed, event_at, event_bytes}
+use Rattle.rules.specs.declared.Answer.{Answer}
+use Rattle.rules.specs.declared.Refusal.{Refusal}
+use Rattle.rules.specs.Rules.{answer, four_of, of_four}
+use Rattle.rules.specs.Codes.{refusal_number}
 use Rattle.rules.specs.Single.{one_result}
 use Rattle.book.specs.Layout.{activity_count, seat_count, size_of, activity_of, seat_of, put_state, moved}
-use Rattle.book.specs.Book.{book_refusal}
+use Rattle.book.specs.Book.{book_refusal, headed, opened}
+use Rattle.run.specs.declared.Refusal.{Refusal as RunRefusal}
 use Rattle.run.specs.Step.{answer_at}
-use Rattle.names.specs.Names.{message_named, way_named}
+use Rattle.run.specs.Codes.{number as run_number, number_of}
+use Rattle.names.specs.declared.Message.{Message}
+use Rattle.names.specs.declared.Way.{Way}
+use Rattle.names.specs.Names.{message_named, way_named, name_of, way_name}
+use Rattle.names.specs.Numbers.{message_number, way_number}
 use Rattle.words.specs.Words.{word_at}
 use Rattle.line.specs.Grammar.{newline, line_most, index_of, line_of}
 use Rattle.line.specs.Quick.{aid_bytes}
+use Rattle.journal.specs.declared.Refusal.{Refusal as JournalRefusal}
+use Rattle.journal.specs.Journal.{number as journal_number}
 use Rattle.text.specs.Text.{Put}
 
 -- what is equal to x is one thing
@@ -26,6 +39,9 @@ module _ (l : List ℕ) (at n : ℕ) where
   pub u16_at_single : Single (at16 l at)
   u16_at_single = single (at16 l at)
 
+  pub put_bytes_single : (part : List ℕ) → Single (placed l at part)
+  put_bytes_single part = single (placed l at part)
+
   pub put_four_single : (a b c d : ℕ) → Single (placed l at (a ∷ b ∷ c ∷ d ∷ []))
   put_four_single a b c d = single (placed l at (a ∷ b ∷ c ∷ d ∷ []))
 
@@ -38,9 +54,37 @@ module _ (l : List ℕ) (at n : ℕ) where
   pub read_answer_single : Single (answer_at l n)
   read_answer_single = single (answer_at l n)
 
+-- an event and an answer, from four bytes and as four bytes
+pub event_from_single : (four : List ℕ) → Single (event_at four 0)
+event_from_single four = single (event_at four 0)
+
+pub event_bytes_single : (e : Event) → Single (event_bytes e)
+event_bytes_single e = single (event_bytes e)
+
+pub answer_from_single : (four : List ℕ) → Single (of_four four)
+answer_from_single four = single (of_four four)
+
+pub answer_bytes_single : (a : Answer) → Single (four_of a)
+answer_bytes_single a = single (four_of a)
+
+pub refusal_answer_single : (r : Refusal) (state : ℕ) → Single (answer (refusal_number r) state 0 0)
+refusal_answer_single r state = single (answer (refusal_number r) state 0 0)
+
 module _ (b : List ℕ) (n v d : ℕ) where
   pub check_single : Single (book_refusal b)
   check_single = single (book_refusal b)
+
+  pub headed_single : Single (headed b)
+  headed_single = single (headed b)
+
+  pub header_of_single : Single b
+  header_of_single = single b
+
+  pub opened_single : Single (opened b)
+  opened_single = single (opened b)
+
+  pub book_of_single : Single b
+  book_of_single = single b
 
   pub activity_count_single : Single (activity_count b)
   activity_count_single = single (activity_count b)
@@ -79,8 +123,35 @@ module _ (l : List ℕ) where
   pub u64_at_single : (at : ℕ) → Single (word_at l at)
   u64_at_single at = single (word_at l at)
 
+module _ (m : Message) where
+  pub message_number_single : Single (message_number m)
+  message_number_single = single (message_number m)
+
+  pub message_name_single : Single (name_of (message_number m))
+  message_name_single = single (name_of (message_number m))
+
+module _ (w : Way) where
+  pub way_number_single : Single (way_number w)
+  way_number_single = single (way_number w)
+
+  pub way_name_single : Single (way_name (way_number w))
+  way_name_single = single (way_name (way_number w))
+
+-- the numbers of what a run, and a journal, is refused for
+pub run_refusal_number_single : (r : RunRefusal) → Single (run_number r)
+run_refusal_number_single r = single (run_number r)
+
+pub run_number_single : (worked : Result (Unit {0}) RunRefusal) → Single (number_of worked)
+run_number_single worked = single (number_of worked)
+
+pub journal_refusal_number_single : (r : JournalRefusal) → Single (journal_number r)
+journal_refusal_number_single r = single (journal_number r)
+
 pub aids_single : Single aid_bytes
 aids_single = single aid_bytes
+
+pub lent_aids_single : (aids : List ℕ) → Single aids
+lent_aids_single aids = single aids
 
 -- the functions of `text`: one area and one place
 pub put_single : (area : List ℕ) (at : ℕ) (text l l' : List ℕ) (r r' : ℕ) → Put area at text l r → Put area at text l' r' → (l ≡ l') × (r ≡ r')

@@ -20,7 +20,7 @@ use text::Page;
 const RECORDS_MOST: usize = records::EVENT_SIZE * run::EVENTS_MOST;
 
 // The book's line and those of 4,096 events and 4,096 seats, each at its longest: `report_most`, as `report_space` says.
-const REPORT_MOST: usize = 17 + 48 * run::EVENTS_MOST + 17 * book::SEATS_MOST;
+pub const REPORT_MOST: usize = 17 + 48 * run::EVENTS_MOST + 17 * book::SEATS_MOST;
 
 // The numbers that end a line, a space before each.
 fn put_ending(page: &mut Page, numbers: &[usize])

@@ -7,16 +7,17 @@ const WHOLE_MOST: usize = 1000;
 
 fn main() {
     let mut input = [0; 90000];
-    show::cases(|n| next_case(n, &mut input));
+    let mut out = desk::report_space();
+    show::cases(|n| next_case(n, &mut input, &mut out));
 }
 
 // None where the input has no more, or a case that is longer than the space for it.
-fn next_case(n: usize, input: &mut [u8]) -> Option<()> {
+// The report's space is made once for all cases, and its length is the type's.
+fn next_case(n: usize, input: &mut [u8], out: &mut [u8; desk::REPORT_MOST]) -> Option<()> {
     let size = show::read_size()?;
     let input = input.get_mut(..size)?;
     show::read_whole(input)?;
-    let mut out = desk::report_space();
-    let count = desk::report(input, &mut out);
+    let count = desk::report(input, out);
     show::text(b"case ");
     show::number(n);
     show::line_end();

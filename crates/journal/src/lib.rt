@@ -65,31 +65,33 @@ pub fn read(text: &[u8], area: &mut [u8]) -> Result<usize, Refused>
             line: 0,
         });
     }
-    // Four bytes for each event that the text can have: numerals, as a const argument is not computed.
+    let aids = Aids::made();
+    let aids = Aids::of(&aids);
+    // Four bytes for each event that the text can have.
     if text.len() <= SHORT_TEXT {
-        read_aside::<1024>(text, area)
-    } else {
-        read_aside::<16384>(text, area)
+        let mut kept = [0; 1024];
+        return read_aside(text, area, &mut kept, aids);
     }
+    let mut kept = [0; 16384];
+    read_aside(text, area, &mut kept, aids)
 }
 
-// The same of a text that is not too long, with N bytes aside: room for as many events as it has bytes, or for 4,096.
-fn read_aside<const N: usize>(text: &[u8], area: &mut [u8]) -> Result<usize, Refused>
+// The same of a text that is not too long, with room aside for as many events as it has bytes, or for 4,096.
+// The area is lent to it: with an area of its own the copy out of it would be `memcpy`, which an archive for C would need from outside.
+fn read_aside(text: &[u8], area: &mut [u8], kept: &mut [u8], aids: Aids) -> Result<usize, Refused>
     requires text { length text.now ≤ 65536 }
-    requires room { 4 * min (length text.now) 4096 ≤ N }
-    requires aside { N ≤ 16384 }
+    requires room { 4 * min (length text.now) 4096 ≤ length kept.old }
     ensures value { told result ≡ reading text.now (length area.old) }
     ensures bytes { area.new ≡ area_after text.now area.old }
 {
-    let mut kept = [0; N];
-    let count = read_lines(text, area.len(), &mut kept, &Aids::new())?;
+    let count = read_lines(text, area.len(), kept, aids)?;
     let size = records::EVENT_SIZE * count;
     area[..size].copy_from_slice(&kept[..size]);
     Ok(count)
 }
 
 // Reads line after line and keeps the events, until one is refused or the text ends: a buffer and a count, as there is no heap.
-fn read_lines(text: &[u8], area: usize, kept: &mut [u8], aids: &Aids) -> Result<usize, Refused>
+fn read_lines(text: &[u8], area: usize, kept: &mut [u8], aids: Aids) -> Result<usize, Refused>
     requires { 4 * min (length text.now) 4096 ≤ length kept.old }
     ensures { Owed (lines_from area 0 (lines text.now)) (told result) kept.new area }
 {

@@ -10,6 +10,11 @@ use Rattle.lemmas.specs.Ranges.{each_at}
 use Rattle.line.specs.Grammar.{all_digits, value}
 use Rattle.line.specs.Digits.{is_digit_lem, value_snoc, digits_snoc}
 
+-- what a Bool, as a number, keeps of a product
+pub bit_keeps : (b : Bool) (x : ℕ) → (bool_byte b * x ≤ x) × (x * bool_byte b ≤ x) × ((1 - bool_byte b) * x ≤ x)
+bit_keeps true x = (omega arith, omega arith, omega arith)
+bit_keeps false x = (omega arith, omega arith, omega arith)
+
 -- how large i bytes, each ten times the one before it, can get
 abbrev cap : ℕ → ℕ
 cap zero = 0
@@ -25,6 +30,9 @@ pub record Run (l : List ℕ) (n size all : ℕ) (on : Bool) (i : ℕ) : Type 0 
   pub all_says : on ≡ true → (size ≡ i) × (all ≡ value 0 (take i l))
   pub small : n ≤ 2833305
   pub capped : all ≤ cap i
+
+pub run_none : (l : List ℕ) → Run l 0 0 0 true 0
+run_none l = record { within = omega arith; each = refl; says = refl; all_says = λ e. (refl, refl); small = omega arith; capped = omega arith }
 
 module _ (l : List ℕ) (n size all : ℕ) (on : Bool) (i : ℕ) (r : Run l n size all on i) (five : i < 5) where
   pub run_small : all ≤ 283305

@@ -1,6 +1,7 @@
 -- The grammar, field by field, at the places that the code finds.
 -- Assumes nothing.
 use Rattle.std.proofs.Common.{◌≡◌, ℕ, ◌+◌, ◌-◌, ◌<◌, ◌≤◌, Bool, true, false, cond, ap, ◌&&◌, Some, None, List, length, take, drop, refl, arith, length-take, take-take, ◌==◌, ltb-true, ltb-false, le-ltb, lt-ltb, le-leb}
+use Rattle.std.proofs.lemmas.Bool.{lt-leb}
 use Rattle.std.specs.List.{position_or_len}
 use Rattle.std.proofs.lemmas.List.Recursion.{is_position_or_len}
 use Rattle.names.specs.Names.{way_named}
@@ -59,17 +60,20 @@ module _ (l : List ℕ) where
     first_at = rw (first_is.0, first_is.1, first_is.2)
 
 -- the second, at the place of its space
+module _ (l : List ℕ) (at : ℕ) (e : at ≡ index_of space l) (h : at < length l) where
+  pub second_bad : (seat : ℕ) → 1 < way_named (take at l) → second_of seat l ≡ Refused 23
+  unfolding second_of
+  second_bad seat b = rw (← e, lt-ltb at (length l) h, lt-leb (way_named (take at l)) 1 b)
+
+-- and at what the code finds
 module _ (l : List ℕ) (seat : ℕ) where
   pub second_none : place_in space l ≡ None → second_of seat l ≡ Refused 23
   unfolding second_of
   second_none h = rw (le-ltb (index_of space l) (length l) (omega (arith, no_place space l h)))
 
   module _ (at : ℕ) (h : place_in space l ≡ Some at) where
-    pub second_bad : 2 ≡ way_named (take at l) → second_of seat l ≡ Refused 23
-    unfolding second_of
-    second_bad b =
-        let p = at_place space l at h in
-        rw (← p.0, lt-ltb at (length l) p.1, ← b)
+    pub second_unnamed : 2 ≡ way_named (take at l) → second_of seat l ≡ Refused 23
+    second_unnamed b = let p = at_place space l at h in second_bad l at p.0 p.1 seat (omega (arith, b))
 
     pub second_good : (way : Way) → way_number way ≡ way_named (take at l) → second_of seat l ≡ third_of seat (way_number way) (take (length l - (at + 1)) (drop (at + 1) l))
     unfolding second_of

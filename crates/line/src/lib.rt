@@ -51,7 +51,7 @@ pub struct NextLine {
 
 // The line that the text begins with. `size` is the smaller of 26 and the text's length where its first 26 bytes have no newline.
 #[tactic(auto, using(crate::proofs::Steps::line_steps))]
-pub fn next(rest: &[u8], aids: &Aids) -> NextLine
+pub fn next(rest: &[u8], aids: Aids) -> NextLine
     ensures said { told result.said ≡ line_of rest.now }
     ensures place { result.size ≡ index_of newline (take line_most rest.now) }
     ensures within { result.size ≤ length rest.now }

@@ -56,27 +56,49 @@ pub struct Found {
 }
 
 // What lines are compared with, made once for a text: a row for each message, then which one to guess, then the masks.
-#[derive(Drop)]
-pub struct Aids {
-    // 256 bytes of rows, 32 of guesses and 32 of masks: `aid_bytes`.
-    pub bytes: [u8; 320],
-    ghost made: { bytes ≡ aid_bytes },
+// The bytes are lent, by who knows that they are `aid_bytes`: an array in it would be copied where it is made.
+#[derive(Clone, Copy)]
+pub struct Aids<'a> {
+    pub bytes: &'a [u8],
+    ghost known: { bytes.now ≡ aid_bytes },
+    ghost size: { length bytes.now ≡ 320 },
 }
 
-impl Aids {
-    pub fn new() -> Aids
-        ensures { result.bytes ≡ aid_bytes }
+impl<'a> Aids<'a> {
+    // The bytes to lend: 256 of rows, 32 of guesses and 32 of masks.
+    pub fn made() -> [u8; 320]
+        ensures { result ≡ aid_bytes }
     {
         let mut bytes = [255; 320];
-        for message in Message::ALL {
-            put_row(&mut bytes, message);
-        }
+        // Row by row: in a loop over `Message::ALL` the compiler makes a copy of the array, by `memcpy`.
+        put_row(&mut bytes, Message::Cancel);
+        put_row(&mut bytes, Message::Complete);
+        put_row(&mut bytes, Message::Close);
+        put_row(&mut bytes, Message::Compensate);
+        put_row(&mut bytes, Message::Failed);
+        put_row(&mut bytes, Message::Exited);
+        put_row(&mut bytes, Message::NotCompleted);
+        put_row(&mut bytes, Message::Exit);
+        put_row(&mut bytes, Message::Completed);
+        put_row(&mut bytes, Message::Fail);
+        put_row(&mut bytes, Message::CannotComplete);
+        put_row(&mut bytes, Message::Canceled);
+        put_row(&mut bytes, Message::Closed);
+        put_row(&mut bytes, Message::Compensated);
         records::put(
             &mut bytes,
             GUESSES,
             b"\x07\x01\0\0\0\0\0\0\0\0\0\0\x03\x0a\0\0\0\x0d\x05\x04\x0c\x02\0\0\0\0\x06\x0b\x08\x09\0\x0e",
         );
         bytes[MASKS + ROW_SIZE..].fill(0);
+        bytes
+    }
+
+    // The aids in bytes that are known to be they.
+    pub fn of(bytes: &'a [u8]) -> Aids<'a>
+        requires { bytes.now ≡ aid_bytes }
+        ensures { result.bytes.now ≡ bytes.now }
+    {
         Aids { bytes }
     }
 }
@@ -94,7 +116,7 @@ fn put_row(aids: &mut [u8], message: Message)
 }
 
 // The line that the text begins with, where it is found good. A guess is only where to look: each byte of the line is compared.
-pub fn read(rest: &[u8], aids: &Aids) -> Option<Found>
+pub fn read(rest: &[u8], aids: Aids) -> Option<Found>
     ensures told { Told rest.now result }
     ensures within { IfSome result (λ x. x.size ≤ length rest.now) }
 {
@@ -199,7 +221,7 @@ fn way_at(rest: &[u8], at: usize) -> Option<Way>
 }
 
 // Whether the name at a place, with its newline, is that of a message.
-fn is_name(rest: &[u8], at: usize, aids: &Aids, message: usize, letters: usize) -> bool
+fn is_name(rest: &[u8], at: usize, aids: Aids, message: usize, letters: usize) -> bool
     requires within { at + 16 ≤ length rest.now }
     requires row { message < 16 }
     requires most { letters ≤ 14 }
@@ -209,9 +231,9 @@ fn is_name(rest: &[u8], at: usize, aids: &Aids, message: usize, letters: usize) 
     if aids.bytes[row + 15] as usize != letters {
         return false;
     }
-    let low = words::u64_at(&aids.bytes, MASKS + 15 - letters);
-    let high = words::u64_at(&aids.bytes, MASKS + 23 - letters);
-    let first = words::u64_at(rest, at) & low == words::u64_at(&aids.bytes, row) & low;
-    let last = words::u64_at(rest, at + 8) & high == words::u64_at(&aids.bytes, row + 8) & high;
+    let low = words::u64_at(aids.bytes, MASKS + 15 - letters);
+    let high = words::u64_at(aids.bytes, MASKS + 23 - letters);
+    let first = words::u64_at(rest, at) & low == words::u64_at(aids.bytes, row) & low;
+    let last = words::u64_at(rest, at + 8) & high == words::u64_at(aids.bytes, row + 8) & high;
     first & last
 }

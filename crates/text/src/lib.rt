@@ -29,15 +29,19 @@ impl Page<'_> {
         self.size = end;
     }
 
-    // A number of at most five digits, in decimal.
+    // A number of at most five digits, in decimal. Most numbers of a report have one digit, and those are written without a buffer.
     // That it has no more is a clause, here and in `desk`: a type of such numbers would be made for each call.
-    #[tactic(auto, using(crate::specs::Std::std_decimal_is, crate::specs::Laws::decimal_most))]
+    #[tactic(auto, using(crate::specs::Std::std_decimal_is, crate::specs::Laws::decimal_most, crate::specs::Laws::decimal_one))]
     pub fn number(&mut self, n: usize)
         requires { (n < number_most) × HasRoom self.old digits_most }
         ensures text { Wrote self.old (decimal n) self.new }
         ensures most { self.new.size ≤ self.old.size + digits_most }
     {
-        self.word(itoa::Buffer::new().format(n).as_bytes());
+        if n < 10 {
+            self.byte(b'0' + n as u8);
+        } else {
+            self.word(itoa::Buffer::new().format(n).as_bytes());
+        }
     }
 
     // A number and the byte that ends its field.

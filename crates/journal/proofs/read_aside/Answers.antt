@@ -5,16 +5,16 @@ use Rattle.journal.proofs.Keeping.{read_value, copied_out}
 use Rattle.journal.proofs.read_aside.Goals as goal
 
 pub returns-in_err-count-clause-value : goal.returns-in_err-count-clause-value
-returns-in_err-count-clause-value g c =
+returns-in_err-count-clause-value c =
     let same : c.from_residual.result ≡ Err c.in_err-count.field-0.0 = search rules in
     rw same (read_value c.args.text.now c.args.area.now c.requires.text c.read_lines.new.kept _ c.in_err-count.ensures)
 
 pub returns-in_err-count-clause-bytes : goal.returns-in_err-count-clause-bytes
-returns-in_err-count-clause-bytes g c = copied_out c.args.text.now c.args.area.now c.requires.text c.read_lines.new.kept _ c.in_err-count.ensures [] refl
+returns-in_err-count-clause-bytes c = copied_out c.args.text.now c.args.area.now c.requires.text c.read_lines.new.kept _ c.in_err-count.ensures [] refl
 
 pub returns-clause-value : goal.returns-clause-value
-returns-clause-value g c = read_value c.args.text.now c.args.area.now c.requires.text c.read_lines.new.kept _ c.in_ok-count.ensures
+returns-clause-value c = read_value c.args.text.now c.args.area.now c.requires.text c.read_lines.new.kept _ c.in_ok-count.ensures
 
 pub returns-clause-bytes : goal.returns-clause-bytes
-returns-clause-bytes g c =
+returns-clause-bytes c =
     copied_out c.args.text.now c.args.area.now c.requires.text c.read_lines.new.kept _ c.in_ok-count.ensures c.copy_from_slice.new.self c.copy_from_slice.ensures.after

@@ -9,7 +9,7 @@ returns c s =
     let a = c.args in
     let low = c.u64_at-low in
     let high = c.u64_at-high in
-    name_found a.rest.now a.aids.now.bytes a.at a.message a.letters a.aids.now.made (λ k. (c.type_inv.rest k).fits)
+    name_found a.rest.now a.aids.bytes.now a.at a.message a.letters a.aids.known (λ k. (c.type_inv.rest k).fits)
     (omega arith) (omega arith) (omega arith)
     low.result high.result low.ensures high.ensures _ _ _ _ c.u64_at.ensures c.u64_at-2.ensures c.u64_at-3.ensures c.u64_at-4.ensures
     c.if-aids-row.false s
