@@ -8,7 +8,7 @@ from pathlib import Path
 ROOT = Path(__file__).resolve().parents[2]
 QUOTED = re.compile(r"`([^`]+)`")
 SPECIFIED = re.compile(r"(?P<crate>\w+)/(?P<file>\w+\.antt): (?P<names>.+)")
-CODED = re.compile(r"(?P<crate>\w+)::(?:\w+::)*(?P<name>\w+)")
+CODED = re.compile(r"(?P<crate>\w+)::(?P<within>(?:\w+::)*)(?P<name>\w+)")
 EDITED = re.compile(r"(?P<crate>\w+)/(?P<label>\w+)\.edit")
 TRIED = re.compile(r"edits/(?P<path>\w+/\w+\.edit)")
 MADE = re.compile(r"(?P<file>\w+\.py): (?P<names>.+)")
@@ -42,9 +42,22 @@ def has_word(text, name):
     return re.search(rf"\b{re.escape(name)}\b", text)
 
 
-def in_source(crate, name):
-    sources = (ROOT / "crates" / crate / "src").glob("*.rt")
-    return [] if any(coded(text_of(path), name) for path in sources) else [f"{crate}::{name}"]
+def impls_of(text, owner):
+    """The blocks in which a type has its functions, a trait's or its own."""
+    head = rf"^impl(?:<[^>\n]*>)? (?:[^\n{{]* for )?{re.escape(owner)}\b[^\n{{]*{{$"
+    return re.findall(head + r".*?^}", text, re.MULTILINE | re.DOTALL)
+
+
+def in_source(crate, within, name):
+    """Looks for a name in its crate, within the module and the type's `impl`s that it names."""
+    source = ROOT / "crates" / crate / "src"
+    modules = [part for part in within if part[0].islower()]
+    types = [part for part in within if part[0].isupper()]
+    paths = [source / f"{modules[-1]}.rt"] if modules else source.glob("*.rt")
+    texts = [text_of(path) for path in paths]
+    if types:
+        texts = [block for text in texts for block in impls_of(text, types[-1])]
+    return [] if any(coded(text, name) for text in texts) else ["::".join([crate, *within, name])]
 
 
 def faults_of(quoted):
@@ -55,7 +68,7 @@ def faults_of(quoted):
         return missing(crate / "specs" / match["file"], match["names"], declared,
                        crate / "proofs" / match["file"])
     if match := CODED.fullmatch(quoted):
-        return in_source(match["crate"], match["name"])
+        return in_source(match["crate"], match["within"].split("::")[:-1], match["name"])
     if match := EDITED.fullmatch(quoted):
         path = crates / match["crate"] / "must-fail" / f"{match['label']}.edit"
         return [] if path.is_file() else [quoted]
