@@ -14,7 +14,9 @@ use Rattle.rules.specs.Codes.{refusal_number}
 use Rattle.rules.specs.Single.{one_result}
 use Rattle.book.specs.Layout.{activity_count, seat_count, size_of, activity_of, seat_of, put_state, moved}
 use Rattle.book.specs.Book.{book_refusal, headed, opened}
+use Rattle.book.specs.declared.Refusal.{Refusal as BookRefusal}
 use Rattle.run.specs.declared.Refusal.{Refusal as RunRefusal}
+use Rattle.run.specs.declared.Refusal.TheVariants.{Book}
 use Rattle.run.specs.Step.{answer_at}
 use Rattle.run.specs.Codes.{number as run_number, number_of}
 use Rattle.names.specs.declared.Message.{Message}
@@ -24,7 +26,9 @@ use Rattle.names.specs.Numbers.{message_number, way_number}
 use Rattle.words.specs.Words.{word_at}
 use Rattle.line.specs.Grammar.{newline, line_most, index_of, line_of}
 use Rattle.line.specs.Quick.{aid_bytes}
+use Rattle.line.specs.declared.Refusal.{Refusal as LineRefusal}
 use Rattle.journal.specs.declared.Refusal.{Refusal as JournalRefusal}
+use Rattle.journal.specs.declared.Refusal.TheVariants.{Line}
 use Rattle.journal.specs.Journal.{number as journal_number}
 use Rattle.text.specs.Text.{Put}
 
@@ -146,6 +150,13 @@ run_number_single worked = single (number_of worked)
 
 pub journal_refusal_number_single : (r : JournalRefusal) → Single (journal_number r)
 journal_refusal_number_single r = single (journal_number r)
+
+-- a refusal of a book as a run's, and of a line as a journal's
+pub run_from_book_single : (r : BookRefusal) → Single (Book r)
+run_from_book_single r = single (Book r)
+
+pub journal_from_line_single : (r : LineRefusal) → Single (Line r)
+journal_from_line_single r = single (Line r)
 
 pub aids_single : Single aid_bytes
 aids_single = single aid_bytes
