@@ -8,9 +8,7 @@ use Rattle.std.specs.Prelude.{◌≡◌, Result, List, [], ◌∷◌, ℕ, ◌*�
 use Rattle.records.specs.declared.Event.{Event}
 use Rattle.records.specs.Records.{at16, placed, event_at, event_bytes}
 use Rattle.rules.specs.declared.Answer.{Answer}
-use Rattle.rules.specs.declared.Refusal.{Refusal}
-use Rattle.rules.specs.Rules.{answer, four_of, of_four}
-use Rattle.rules.specs.Codes.{refusal_number}
+use Rattle.rules.specs.Rules.{four_of, of_four}
 use Rattle.rules.specs.Single.{one_result}
 use Rattle.book.specs.Layout.{activity_count, seat_count, size_of, activity_of, seat_of, put_state, moved}
 use Rattle.book.specs.Book.{book_refusal, headed, opened}
@@ -58,10 +56,7 @@ module _ (l : List ℕ) (at n : ℕ) where
   pub read_answer_single : Single (answer_at l n)
   read_answer_single = single (answer_at l n)
 
--- an event and an answer, from four bytes and as four bytes
-pub event_from_single : (four : List ℕ) → Single (event_at four 0)
-event_from_single four = single (event_at four 0)
-
+-- an event as four bytes, and an answer from four bytes and as four bytes
 pub event_bytes_single : (e : Event) → Single (event_bytes e)
 event_bytes_single e = single (event_bytes e)
 
@@ -71,8 +66,9 @@ answer_from_single four = single (of_four four)
 pub answer_bytes_single : (a : Answer) → Single (four_of a)
 answer_bytes_single a = single (four_of a)
 
-pub refusal_answer_single : (r : Refusal) (state : ℕ) → Single (answer (refusal_number r) state 0 0)
-refusal_answer_single r state = single (answer (refusal_number r) state 0 0)
+-- a view of lent bytes: a header, a book, the aids
+pub lent_single : (bytes : List ℕ) → Single bytes
+lent_single bytes = single bytes
 
 module _ (b : List ℕ) (n v d : ℕ) where
   pub check_single : Single (book_refusal b)
@@ -81,14 +77,8 @@ module _ (b : List ℕ) (n v d : ℕ) where
   pub headed_single : Single (headed b)
   headed_single = single (headed b)
 
-  pub header_of_single : Single b
-  header_of_single = single b
-
   pub opened_single : Single (opened b)
   opened_single = single (opened b)
-
-  pub book_of_single : Single b
-  book_of_single = single b
 
   pub activity_count_single : Single (activity_count b)
   activity_count_single = single (activity_count b)
@@ -160,9 +150,6 @@ journal_from_line_single r = single (Line r)
 
 pub aids_single : Single aid_bytes
 aids_single = single aid_bytes
-
-pub lent_aids_single : (aids : List ℕ) → Single aids
-lent_aids_single aids = single aids
 
 -- the functions of `text`: one area and one place
 pub put_single : (area : List ℕ) (at : ℕ) (text l l' : List ℕ) (r r' : ℕ) → Put area at text l r → Put area at text l' r' → (l ≡ l') × (r ≡ r')
